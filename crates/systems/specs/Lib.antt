@@ -1,3 +1,5 @@
 pub mod Words
 pub mod Meaning
+pub mod Bounded
+pub mod Refinement
 pub mod Refusals

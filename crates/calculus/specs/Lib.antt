@@ -1,0 +1,3 @@
+pub mod Formula
+pub mod Pairs
+pub mod Marks
