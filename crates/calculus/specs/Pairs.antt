@@ -4,9 +4,7 @@ use mathlib.Core.Bool.{Bool, true, false, not, _&&_, _||_}
 use Prim.Native.Nat.{ℕ, _<_}
 use Rattle.systems.specs.Bounded.{any, all}
 use Rattle.systems.specs.Meaning.{Meaning, states}
-use Rattle.systems.specs.Words.{possible, certain}
-use Rattle.systems.specs.declared.kinds.Light.{Light}
-use Rattle.systems.specs.declared.kinds.Light.the-variants.{Unknown, On, Off}
+use Rattle.systems.specs.Words.{possible, certain, is-on, is-off}
 use Rattle.calculus.specs.declared.syntax.Variable.{Variable}
 use Rattle.calculus.specs.declared.syntax.Leaf.{Leaf}
 use Rattle.calculus.specs.declared.syntax.Leaf.the-variants.{True, False, Lamp, Var}
@@ -24,16 +22,6 @@ Same n p q = (s : ℕ) → s < n → (p .necessary s ≡ q .necessary s) × (p .
 
 abbrev pub Within : ℕ → Pair → Pair → Type 0
 Within n p q = (s : ℕ) → s < n → (p .necessary s ≡ true → q .necessary s ≡ true) × (p .possibly s ≡ true → q .possibly s ≡ true)
-
-abbrev pub is-on : Light → Bool
-is-on Unknown = false
-is-on On = true
-is-on Off = false
-
-abbrev pub is-off : Light → Bool
-is-off Unknown = false
-is-off On = false
-is-off Off = true
 
 -- a lamp holds necessarily where it is on, and possibly where it is on or unknown
 abbrev pub leaf-pair : Meaning → (Variable → Pair) → Leaf → Pair

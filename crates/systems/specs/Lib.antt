@@ -3,3 +3,4 @@ pub mod Meaning
 pub mod Bounded
 pub mod Refinement
 pub mod Refusals
+pub mod Edits

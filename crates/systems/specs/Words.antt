@@ -29,6 +29,16 @@ known Unknown = false
 known On = true
 known Off = true
 
+abbrev pub is-on : Light → Bool
+is-on Unknown = false
+is-on On = true
+is-on Off = false
+
+abbrev pub is-off : Light → Bool
+is-off Unknown = false
+is-off On = false
+is-off Off = true
+
 abbrev pub shown : Setting → Light
 shown TurnOn = On
 shown TurnOff = Off

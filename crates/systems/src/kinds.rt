@@ -1,6 +1,6 @@
 // The words in which a system is described.
 ghost use mathlib.Core.Path.{_≡_};
-ghost use Rattle.systems.specs.Words.{possible, certain, drawn, shown};
+ghost use Rattle.systems.specs.Words.{possible, certain, known, is-on, is-off, drawn, shown};
 
 // A move from one state to another on an action. An optional move may be there in a refinement, a
 // certain one must be. Optional and certain moves are the possible ones.
@@ -57,6 +57,38 @@ pub enum Light {
     Unknown,
     On,
     Off,
+}
+
+impl Light {
+    pub fn is_on(self) -> bool
+        ensures { λ r. ⌜ r ≡ is-on self ⌝ }
+    {
+        match self {
+            Light::Unknown => false,
+            Light::On => true,
+            Light::Off => false,
+        }
+    }
+
+    pub fn is_off(self) -> bool
+        ensures { λ r. ⌜ r ≡ is-off self ⌝ }
+    {
+        match self {
+            Light::Unknown => false,
+            Light::On => false,
+            Light::Off => true,
+        }
+    }
+
+    pub fn is_known(self) -> bool
+        ensures { λ r. ⌜ r ≡ known self ⌝ }
+    {
+        match self {
+            Light::Unknown => false,
+            Light::On => true,
+            Light::Off => true,
+        }
+    }
 }
 
 // What an unknown lamp can be turned to.
