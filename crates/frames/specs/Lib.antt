@@ -1,1 +1,3 @@
 pub mod Grids
+pub mod Frames
+pub mod Drafts

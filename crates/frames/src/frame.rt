@@ -4,6 +4,7 @@ ghost use mathlib.Core.Path.{_≡_};
 ghost use mathlib.Core.Bool.{true, false};
 ghost use Prim.Native.Nat.{ℕ, _≤_, _<_};
 ghost use Rattle.systems.specs.Meaning.{move-within, light-within};
+ghost use Rattle.sets.specs.Sets.{width};
 ghost use Rattle.frames.specs.Grids.{may-at, must-at, on-at, off-at, frame-meaning};
 use crate::grid::Grid;
 use systems::Kind;
@@ -16,7 +17,7 @@ pub struct Frame {
     pub(crate) sizes: Sizes,
     pub(crate) grid: Grid,
     ghost some_states: { 0 < sizes .states },
-    ghost few_states: { sizes .states ≤ 64 },
+    ghost few_states: { sizes .states ≤ width },
     ghost few_actions: { sizes .actions ≤ 8 },
     ghost few_lamps: { sizes .lamps ≤ 8 },
     ghost started: { sizes .start < sizes .states },

@@ -5,10 +5,11 @@ ghost use mathlib.Core.Bool.{false, cond, _&&_};
 ghost use Prim.Native.Nat.{ℕ, _<_};
 ghost use lib.Dec.{eqb};
 ghost use lib.ListN.{length};
-ghost use Rattle.sets.specs.Sets.{has};
+ghost use Rattle.sets.specs.Sets.{has, width};
 ghost use Rattle.frames.specs.Grids.{row-may, row-must, may-at, must-at, on-at, off-at};
 ghost use Rattle.systems.specs.Words.{possible, certain, is-on, is-off};
 use sets::Set;
+use sets::WIDTH;
 use systems::Kind;
 use systems::Light;
 
@@ -20,7 +21,7 @@ pub struct Row {
 
 #[derive(Clone, Copy)]
 pub struct Grid {
-    pub rows: [Row; 64],
+    pub rows: [Row; WIDTH],
     pub on: [Set; 8],
     pub off: [Set; 8],
 }
@@ -28,7 +29,7 @@ pub struct Grid {
 impl Row {
     pub(crate) fn set_move(&mut self, action: usize, to: usize, kind: Kind)
         requires action { ⌜ action < 8 ⌝ }
-        requires to { ⌜ to < 64 ⌝ }
+        requires to { ⌜ to < width ⌝ }
         ensures may { λ _. ⌜ ((a t : ℕ) → row-may (now (self .exit)) a t ≡ cond (eqb a action && eqb t to) (possible kind) (row-may (now (self .entry)) a t)) ⌝ }
         ensures must { λ _. ⌜ ((a t : ℕ) → row-must (now (self .exit)) a t ≡ cond (eqb a action && eqb t to) (certain kind) (row-must (now (self .entry)) a t)) ⌝ }
     {
@@ -50,16 +51,16 @@ impl Grid {
             must: none,
         };
         Grid {
-            rows: [row; 64],
+            rows: [row; WIDTH],
             on: none,
             off: none,
         }
     }
 
     pub(crate) fn set_move(&mut self, from: usize, action: usize, to: usize, kind: Kind)
-        requires from { ⌜ from < 64 ⌝ }
+        requires from { ⌜ from < width ⌝ }
         requires action { ⌜ action < 8 ⌝ }
-        requires to { ⌜ to < 64 ⌝ }
+        requires to { ⌜ to < width ⌝ }
         ensures may { λ _. ⌜ ((s a t : ℕ) → may-at (now (self .exit)) s a t ≡ cond (eqb s from && eqb a action && eqb t to) (possible kind) (may-at (now (self .entry)) s a t)) ⌝ }
         ensures must { λ _. ⌜ ((s a t : ℕ) → must-at (now (self .exit)) s a t ≡ cond (eqb s from && eqb a action && eqb t to) (certain kind) (must-at (now (self .entry)) s a t)) ⌝ }
         ensures on { λ _. ⌜ now (self .exit) .on ≡ now (self .entry) .on ⌝ }
@@ -71,7 +72,7 @@ impl Grid {
     }
 
     pub(crate) fn set_light(&mut self, state: usize, lamp: usize, light: Light)
-        requires state { ⌜ state < 64 ⌝ }
+        requires state { ⌜ state < width ⌝ }
         requires lamp { ⌜ lamp < 8 ⌝ }
         ensures on { λ _. ⌜ ((s l : ℕ) → on-at (now (self .exit)) s l ≡ cond (eqb s state && eqb l lamp) (is-on light) (on-at (now (self .entry)) s l)) ⌝ }
         ensures off { λ _. ⌜ ((s l : ℕ) → off-at (now (self .exit)) s l ≡ cond (eqb s state && eqb l lamp) (is-off light) (off-at (now (self .entry)) s l)) ⌝ }
@@ -84,7 +85,7 @@ impl Grid {
 
 // The set with `j` in it or not, as `member` says.
 fn put(set: Set, j: usize, member: bool) -> Set
-    requires { ⌜ j < 64 ⌝ }
+    requires { ⌜ j < width ⌝ }
     ensures { λ r. ⌜ ((i : ℕ) → has r i ≡ cond (eqb i j) member (has set i)) ⌝ }
 {
     if member {

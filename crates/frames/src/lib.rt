@@ -1,8 +1,10 @@
 // Frames: systems of at most as many states as a set can hold, kept as sets. A draft is a frame
 // that is being made.
+mod draft;
 mod edits;
 mod frame;
 mod grid;
 
+pub use draft::Draft;
 pub use frame::Frame;
 pub use frame::FrameSystem;
