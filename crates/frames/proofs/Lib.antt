@@ -1,3 +1,4 @@
 pub mod Tables
 pub mod Kept
 pub mod Changes
+pub mod Copied

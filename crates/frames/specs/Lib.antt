@@ -1,3 +1,4 @@
 pub mod Grids
 pub mod Frames
 pub mod Drafts
+pub mod Copies

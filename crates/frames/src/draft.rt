@@ -72,7 +72,13 @@ impl Draft {
     }
 
     // Adds a move that is not there yet.
-    pub fn draw(&mut self, from: usize, action: usize, to: usize, modality: Modality) -> Result<(), Refusal>
+    pub fn draw(
+        &mut self,
+        from: usize,
+        action: usize,
+        to: usize,
+        modality: Modality,
+    ) -> Result<(), Refusal>
         ensures answer { λ r. ⌜ r ≡ draw-answer (meaning-of (now (self .entry) .frame)) from action to ⌝ }
         ensures after { λ r. ⌜ meaning-of (now (self .exit) .frame) ≡ after r (with-move (meaning-of (now (self .entry) .frame)) from action to (drawn modality)) (meaning-of (now (self .entry) .frame)) ⌝ }
     {

@@ -4,6 +4,7 @@ mod draft;
 mod edits;
 mod frame;
 mod grid;
+mod load;
 
 pub use draft::Draft;
 pub use frame::Frame;

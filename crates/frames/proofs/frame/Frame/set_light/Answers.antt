@@ -19,8 +19,7 @@ ghost-self c =
     let here = λ (s l : ℕ). eqb s (c .args .state) && eqb l (c .args .lamp) in
     let place = λ (s l : ℕ). place-of-light (f .sizes) (c .args .state) (c .args .lamp) s l (c .if-state-z .taken) (c .if-lamp-z .taken) in
     let may = λ (s a t : ℕ). ap (λ rows. row-may (getD rows s blank-row) a t) (told .rows) in
-    let must = λ (s a t : ℕ). ap (λ rows. row-must (getD rows s blank-row) a t) (told .rows) in
-    (
+    let must = λ (s a t : ℕ). ap (λ rows. row-must (getD rows s blank-row) a t) (told .rows) in (
       f .«some_states»,
       (
         f .«few_states»,

@@ -17,8 +17,7 @@ ghost-self c =
     let k = c .args .kind in
     let here = λ (s a t : ℕ). eqb s (c .args .from) && eqb a (c .args .action) && eqb t (c .args .to) in
     let on = λ (s l : ℕ). ap (λ ws. has (getD ws l 0) s) (told .on) in
-    let off = λ (s l : ℕ). ap (λ ws. has (getD ws l 0) s) (told .off) in
-    (
+    let off = λ (s l : ℕ). ap (λ ws. has (getD ws l 0) s) (told .off) in (
       f .«some_states»,
       (
         f .«few_states»,
