@@ -1,0 +1,96 @@
+-- Numbers of one to three digits, and their texts. Assumes nothing.
+use mathlib.Core.Path.{_≡_, refl, sym, ap, _∙_}
+use mathlib.Core.Bool.{Bool, true, false, cond, not, _&&_}
+use mathlib.Core.List.{List, [], _∷_}
+use mathlib.Core.Logic.{_⊎_, inl, inr}
+use Prim.Native.Nat.{ℕ, _+_, _-_, _*_, _/_, _%_, _<_, _≤_}
+use native.Mathlib.Omega.{arith}
+use lib.Dec.{leb, ltb, eqb}
+use lib.ListN.{length}
+use Rattle.std.specs.Options.{Cases}
+use Rattle.std.specs.shelf.Lists.{All}
+use Rattle.std.specs.declared.option.Option.{Option}
+use Rattle.std.specs.declared.option.Option.the-variants.{Some, None}
+use Rattle.std.proofs.shelf.Tests.{lt-ltb, le-ltb, ltb-true, ltb-false, le-leb, ne-eqb, cases-lt, cond-true, cond-false}
+use Rattle.std.proofs.shelf.Ways.{tells}
+use Rattle.text.specs.Numbers.{is-digit, decimal, numeral}
+use Rattle.text.proofs.Before.{Without}
+
+-- the text of a number by its size
+pub decimal-one : (n : ℕ) → n < 10 → decimal n ≡ (48 + n) ∷ []
+decimal-one n h = rw (lt-ltb n 10 h)
+
+pub decimal-two : (n : ℕ) → 10 ≤ n → n < 100 → decimal n ≡ (48 + n / 10) ∷ (48 + n % 10) ∷ []
+decimal-two n l h = rw (le-ltb n 10 l, lt-ltb n 100 h)
+
+pub decimal-three : (n : ℕ) → 100 ≤ n → n < 1000 → decimal n ≡ (48 + n / 100) ∷ (48 + n / 10 % 10) ∷ (48 + n % 10) ∷ []
+decimal-three n l h = let t : 10 ≤ n = omega arith in rw (le-ltb n 10 t, le-ltb n 100 l, lt-ltb n 1000 h)
+
+pub decimal-more : (n : ℕ) → 1000 ≤ n → decimal n ≡ []
+decimal-more n l =
+    let t : 10 ≤ n = omega arith in
+    let u : 100 ≤ n = omega arith in
+    rw (le-ltb n 10 t, le-ltb n 100 u, le-ltb n 1000 l)
+
+-- what is read from the text of a number is the number
+pub numeral-decimal : (n : ℕ) → n < 1000 → numeral (decimal n) ≡ Some n
+numeral-decimal n h = go (cases-lt n 10) (cases-lt n 100)
+  where
+    go : (n < 10) ⊎ (10 ≤ n) → (n < 100) ⊎ (100 ≤ n) → numeral (decimal n) ≡ Some n
+    go (inl a) b = rw (decimal-one n a) (grind (arith, tells))
+    go (inr a) (inl b) = rw (decimal-two n a b) (grind (arith, tells))
+    go (inr a) (inr b) = rw (decimal-three n b h) (grind (arith, tells))
+
+-- and a number that is read from a text has that text
+pub numeral-some : (w : List ℕ) (n : ℕ) → numeral w ≡ Some n → (n < 1000) × (w ≡ decimal n)
+numeral-some [] n h = grind arith
+numeral-some (a ∷ []) n h = grind (arith, tells)
+numeral-some (a ∷ b ∷ []) n h = grind (arith, tells)
+numeral-some (a ∷ b ∷ c ∷ []) n h = grind (arith, tells)
+numeral-some (a ∷ b ∷ c ∷ d ∷ rest) n h = grind arith
+
+-- so a text is read just where it is the text of a number
+abbrev pub Shown : List ℕ → Option ℕ → Type 0
+Shown w r = Cases r ((n : ℕ) → n < 1000 → w ≡ decimal n → ⊥) (λ n. (n < 1000) × (w ≡ decimal n))
+
+pub numeral-shown : (w : List ℕ) (r : Option ℕ) → r ≡ numeral w → Shown w r
+numeral-shown w None e = λ n l h. let s = numeral-decimal n l in let z : _≡_ {A = ℕ} 0 1 = cc (ap numeral h) in omega arith
+numeral-shown w (Some n) e = numeral-some w n (sym e)
+
+-- how long the text of a number is
+pub length-decimal : (n : ℕ) → n < 1000 → (1 ≤ length (decimal n)) × (length (decimal n) ≤ 3)
+length-decimal n h = go (cases-lt n 10) (cases-lt n 100)
+  where
+    go : (n < 10) ⊎ (10 ≤ n) → (n < 100) ⊎ (100 ≤ n) → (1 ≤ length (decimal n)) × (length (decimal n) ≤ 3)
+    go (inl a) b = rw (decimal-one n a) (omega arith)
+    go (inr a) (inl b) = rw (decimal-two n a b) (omega arith)
+    go (inr a) (inr b) = rw (decimal-three n b h) (omega arith)
+
+pub length-decimal-two : (n : ℕ) → n < 100 → length (decimal n) ≤ 2
+length-decimal-two n h = go (cases-lt n 10)
+  where
+    go : (n < 10) ⊎ (10 ≤ n) → length (decimal n) ≤ 2
+    go (inl a) = rw (decimal-one n a) (omega arith)
+    go (inr a) = rw (decimal-two n a h) (omega arith)
+
+pub length-decimal-one : (n : ℕ) → n < 10 → length (decimal n) ≡ 1
+length-decimal-one n h = rw (decimal-one n h)
+
+-- each byte of the text of a number is a digit, so a byte that is no digit does not stand in it
+pub decimal-without : (b n : ℕ) → is-digit b ≡ false → Without b (decimal n)
+decimal-without b n d = go (cases-lt n 10) (cases-lt n 100) (cases-lt n 1000)
+  where
+    go : (n < 10) ⊎ (10 ≤ n) → (n < 100) ⊎ (100 ≤ n) → (n < 1000) ⊎ (1000 ≤ n) → Without b (decimal n)
+    go (inl a) e f = rw (decimal-one n a) (grind (arith, tells))
+    go (inr a) (inl e) f = rw (decimal-two n a e) (grind (arith, tells))
+    go (inr a) (inr e) (inl f) = rw (decimal-three n e f) (grind (arith, tells))
+    go (inr a) (inr e) (inr f) = rw (decimal-more n f)
+
+pub decimal-digits : (n : ℕ) → All (λ b. is-digit b ≡ true) (decimal n)
+decimal-digits n = go (cases-lt n 10) (cases-lt n 100) (cases-lt n 1000)
+  where
+    go : (n < 10) ⊎ (10 ≤ n) → (n < 100) ⊎ (100 ≤ n) → (n < 1000) ⊎ (1000 ≤ n) → All (λ b. is-digit b ≡ true) (decimal n)
+    go (inl a) e f = rw (decimal-one n a) (grind (arith, tells))
+    go (inr a) (inl e) f = rw (decimal-two n a e) (grind (arith, tells))
+    go (inr a) (inr e) (inl f) = rw (decimal-three n e f) (grind (arith, tells))
+    go (inr a) (inr e) (inr f) = rw (decimal-more n f) tt

@@ -1,0 +1,35 @@
+// Numbers of at most three digits, read from a text.
+ghost use mathlib.Core.Path.{_≡_};
+ghost use Prim.Native.Nat.{ℕ, _-_, _<_};
+ghost use lib.Dec.{T};
+ghost use Rattle.std.specs.Options.{Cases};
+ghost use Rattle.text.specs.Numbers.{decimal, is-digit, numeral};
+
+fn is_digit(byte: u8) -> bool
+    ensures { λ r. ⌜ r ≡ is-digit byte ⌝ }
+{
+    byte >= b'0' && byte <= b'9'
+}
+
+// The value of a digit.
+fn value(byte: u8) -> usize
+    requires { ⌜ T (is-digit byte) ⌝ }
+    ensures { λ r. ⌜ r ≡ byte - 48 ⌝ }
+{
+    (byte - b'0') as usize
+}
+
+// The number that `text` shows, in one to three digits with no needless zero.
+pub fn number(text: &[u8]) -> Option<usize>
+    ensures value { λ r. ⌜ r ≡ numeral (now (text .entry)) ⌝ }
+    ensures shown { λ r. ⌜ Cases r ((n : ℕ) → n < 1000 → now (text .entry) ≡ decimal n → ⊥) (λ n. (n < 1000) × (now (text .entry) ≡ decimal n)) ⌝ }
+{
+    match text {
+        [a] if is_digit(*a) => Some(value(*a)),
+        [a, b] if is_digit(*a) && is_digit(*b) && *a != b'0' => Some(10 * value(*a) + value(*b)),
+        [a, b, c] if is_digit(*a) && is_digit(*b) && is_digit(*c) && *a != b'0' => {
+            Some(100 * value(*a) + 10 * value(*b) + value(*c))
+        }
+        _ => None,
+    }
+}
