@@ -9,7 +9,7 @@ use native.Mathlib.Numerals.{add-one}
 use native.Mathlib.Omega.{arith}
 use lib.Dec.{eqb}
 use lib.ListN.{length, take, drop, getD, length-append}
-use Rattle.std.proofs.shelf.Lists.{take-at, take-all}
+use Rattle.std.proofs.shelf.Lists.{at-drop-more, at-drop-all, take-at, take-all}
 use Rattle.std.proofs.shelf.Tests.{eqb-true, ne-eqb, eq-eqb}
 use Rattle.text.specs.Bytes.{before}
 
@@ -77,3 +77,16 @@ before-take b xs = go (before-split b xs)
     go : (xs ≡ before b xs) ⊎ (xs ≡ before b xs ++ b ∷ drop (suc (length (before b xs))) xs) → take (length (before b xs)) xs ≡ before b xs
     go (inl h) = take-all (length (before b xs)) xs (omega (arith, ap length h)) ∙ h
     go (inr h) = ap (take (length (before b xs))) h ∙ take-at (before b xs) (b ∷ drop (suc (length (before b xs))) xs) (length (before b xs)) refl
+
+-- a walk along the text that looks for b: past a byte, at b, and past the end
+pub walk-on : (b : ℕ) (xs : List ℕ) (i : ℕ) → i < length xs → (getD xs i 0 ≡ b → ⊥) → (i + 1) + length (before b (drop (i + 1) xs)) ≡ i + length (before b (drop i xs))
+walk-on b xs i l h =
+    let s : length (before b (drop i xs)) ≡ suc (length (before b (drop (i + 1) xs))) = at-drop-more (λ ys. length (before b ys)) xs i 0 l ∙ ap length (before-on b (getD xs i 0) (drop (i + 1) xs) (ne-eqb (getD xs i 0) b h)) in
+    omega arith
+
+pub walk-here : (b : ℕ) (xs : List ℕ) (i : ℕ) → i < length xs → getD xs i 0 ≡ b → length (before b (drop i xs)) ≡ 0
+walk-here b xs i l h =
+    at-drop-more (λ ys. length (before b ys)) xs i 0 l ∙ ap length (before-here b (getD xs i 0) (drop (i + 1) xs) (eq-eqb (getD xs i 0) b h))
+
+pub walk-past : (b : ℕ) (xs : List ℕ) (i : ℕ) → length xs ≤ i → length (before b (drop i xs)) ≡ 0
+walk-past b xs i l = at-drop-all (λ ys. length (before b ys)) xs i l

@@ -3,10 +3,10 @@ use mathlib.Core.Path.{_≡_, refl, sym, ap, _∙_}
 use mathlib.Core.Bool.{Bool, true, false, cond}
 use mathlib.Core.List.{List, [], _∷_, _++_}
 use mathlib.Core.Logic.{_⊎_, inl, inr}
-use Prim.Native.Nat.{ℕ, suc}
+use Prim.Native.Nat.{ℕ, suc, _<_, _≤_}
 use native.Mathlib.Omega.{arith}
 use lib.Dec.{eqb}
-use lib.ListN.{length, drop}
+use lib.ListN.{length, drop, length-append}
 use Rattle.std.specs.Options.{mapped}
 use Rattle.std.specs.declared.option.Option.{Option}
 use Rattle.std.specs.declared.option.Option.the-variants.{Some, None}
@@ -68,3 +68,21 @@ cut-none b xs h = go (before-split b xs)
         let s = ap (cut b) e ∙ cut-append b (before b xs) (drop (suc (length (before b xs))) xs) (before-without b xs) in
         let z : _≡_ {A = ℕ} 0 1 = cc in
         absurd (omega arith)
+
+-- the cut by the place of the byte
+pub cut-past : (b : ℕ) (xs : List ℕ) → length xs ≤ length (before b xs) → cut b xs ≡ None
+cut-past b xs l = go (before-split b xs)
+  where
+    go : (xs ≡ before b xs) ⊎ (xs ≡ before b xs ++ b ∷ drop (suc (length (before b xs))) xs) → cut b xs ≡ None
+    go (inl e) = cut-without b xs (sym e)
+    go (inr e) =
+        let n = ap length e ∙ length-append (before b xs) (b ∷ drop (suc (length (before b xs))) xs) in
+        absurd (omega arith)
+
+pub cut-at : (b : ℕ) (xs : List ℕ) → length (before b xs) < length xs → cut b xs ≡ Some (before b xs, drop (suc (length (before b xs))) xs)
+cut-at b xs l = go (before-split b xs)
+  where
+    go : (xs ≡ before b xs) ⊎ (xs ≡ before b xs ++ b ∷ drop (suc (length (before b xs))) xs) → cut b xs ≡ Some (before b xs, drop (suc (length (before b xs))) xs)
+    go (inl e) = let n = ap length e in absurd (omega arith)
+    go (inr e) =
+        ap (cut b) e ∙ cut-append b (before b xs) (drop (suc (length (before b xs))) xs) (before-without b xs)

@@ -3,16 +3,16 @@ use mathlib.Core.Path.{_≡_, refl, sym, ap, _∙_}
 use mathlib.Core.Bool.{Bool, true, false, cond}
 use mathlib.Core.List.{List, [], _∷_, _++_}
 use mathlib.Core.Logic.{_⊎_, inl, inr}
-use Prim.Native.Nat.{ℕ, zero, suc, _+_, _<_, _≤_}
+use Prim.Native.Nat.{ℕ, zero, suc, _+_, _-_, _<_, _≤_}
 use native.Mathlib.Omega.{arith}
 use lib.Dec.{eqb}
-use lib.ListN.{length, drop}
-use Rattle.std.proofs.shelf.Lists.{drop-all}
+use lib.ListN.{length, take, drop, length-drop}
+use Rattle.std.proofs.shelf.Lists.{drop-all, drop-drop}
 use Rattle.std.specs.declared.option.Option.{Option}
 use Rattle.std.specs.declared.option.Option.the-variants.{Some, None}
 use Rattle.text.specs.Bytes.{before}
 use Rattle.text.specs.Lines.{Line, longer, lines, line-at}
-use Rattle.text.proofs.Before.{Without, without-parts, before-without, before-split}
+use Rattle.text.proofs.Before.{Without, without-parts, before-without, before-split, before-take}
 
 lines-on : (x : ℕ) (xs : List ℕ) → eqb x 10 ≡ false → lines (x ∷ xs) ≡ longer x (lines xs)
 lines-on x xs e = rw e
@@ -50,3 +50,26 @@ line-first xs l = ap (λ ls. line-at ls 1) (lines-first xs l .1)
 
 pub line-later : (xs : List ℕ) (n : ℕ) → 0 < length xs → line-at (lines xs) (suc (suc n)) ≡ line-at (lines (drop (suc (length (before 10 xs))) xs)) (suc n)
 line-later xs n l = ap (λ ls. line-at ls (suc (suc n))) (lines-first xs l .1)
+
+-- the line of a number in what is left of a text from the place at on, where the first line ends at `end`
+module _ (xs : List ℕ) (at end : ℕ) (inside : at < length xs) (here : end ≡ at + length (before 10 (drop at xs))) where
+  pub line-here : line-at (lines (drop at xs)) 1 ≡ Some (take (end - at) (drop at xs))
+  line-here =
+      let n : end - at ≡ length (before 10 (drop at xs)) = omega arith in
+      line-first (drop at xs) (omega (arith, length-drop at xs)) ∙ ap Some (sym (rw n (before-take 10 (drop at xs))))
+
+  pub line-on : (left : ℕ) → 1 < left → line-at (lines (drop at xs)) left ≡ line-at (lines (drop (end + 1) xs)) (left - 1)
+  line-on zero l = absurd (omega arith)
+  line-on (suc zero) l = absurd (omega arith)
+  line-on (suc (suc n)) l =
+      let m : suc (suc n) - 1 ≡ suc n = omega arith in
+      let p : at + suc (length (before 10 (drop at xs))) ≡ end + 1 = omega arith in
+      line-later (drop at xs) n (omega (arith, length-drop at xs)) ∙ rw (m, drop-drop, p)
+
+pub line-none : (n : ℕ) → line-at [] n ≡ None
+line-none zero = refl
+line-none (suc n) = refl
+
+-- past the end there is no line of any number
+pub line-past : (xs : List ℕ) (at left : ℕ) → length xs ≤ at → line-at (lines (drop at xs)) left ≡ None
+line-past xs at left l = ap (λ ys. line-at (lines ys) left) (drop-all at xs l) ∙ line-none left

@@ -6,7 +6,7 @@ use mathlib.Core.Logic.{_⊎_, inl, inr}
 use Prim.Native.Nat.{ℕ, _+_, _-_, _*_, _/_, _%_, _<_, _≤_}
 use native.Mathlib.Omega.{arith}
 use lib.Dec.{leb, ltb, eqb}
-use lib.ListN.{length}
+use lib.ListN.{length, getD}
 use Rattle.std.specs.Options.{Cases}
 use Rattle.std.specs.shelf.Lists.{All}
 use Rattle.std.specs.declared.option.Option.{Option}
@@ -94,3 +94,22 @@ decimal-digits n = go (cases-lt n 10) (cases-lt n 100) (cases-lt n 1000)
     go (inr a) (inl e) f = rw (decimal-two n a e) (grind (arith, tells))
     go (inr a) (inr e) (inl f) = rw (decimal-three n e f) (grind (arith, tells))
     go (inr a) (inr e) (inr f) = rw (decimal-more n f) tt
+
+-- what a text of one, two or three digits shows, by its bytes
+pub numeral-one : (w : List ℕ) → length w ≡ 1 → is-digit (getD w 0 0) ≡ true → Some (getD w 0 0 - 48) ≡ numeral w
+numeral-one [] l d = absurd (omega arith)
+numeral-one (a ∷ []) l d = rw d
+numeral-one (a ∷ b ∷ rest) l d = absurd (omega arith)
+
+pub numeral-two : (w : List ℕ) → length w ≡ 2 → is-digit (getD w 0 0) ≡ true → is-digit (getD w 1 0) ≡ true → (getD w 0 0 ≡ 48 → ⊥) → Some (10 * (getD w 0 0 - 48) + (getD w 1 0 - 48)) ≡ numeral w
+numeral-two [] l d e z = absurd (omega arith)
+numeral-two (a ∷ []) l d e z = absurd (omega arith)
+numeral-two (a ∷ b ∷ []) l d e z = rw (d, e, ne-eqb a 48 z)
+numeral-two (a ∷ b ∷ c ∷ rest) l d e z = absurd (omega arith)
+
+pub numeral-three : (w : List ℕ) → length w ≡ 3 → is-digit (getD w 0 0) ≡ true → is-digit (getD w 1 0) ≡ true → is-digit (getD w 2 0) ≡ true → (getD w 0 0 ≡ 48 → ⊥) → Some (100 * (getD w 0 0 - 48) + 10 * (getD w 1 0 - 48) + (getD w 2 0 - 48)) ≡ numeral w
+numeral-three [] l d e f z = absurd (omega arith)
+numeral-three (a ∷ []) l d e f z = absurd (omega arith)
+numeral-three (a ∷ b ∷ []) l d e f z = absurd (omega arith)
+numeral-three (a ∷ b ∷ c ∷ []) l d e f z = rw (d, e, f, ne-eqb a 48 z)
+numeral-three (a ∷ b ∷ c ∷ x ∷ rest) l d e f z = absurd (omega arith)

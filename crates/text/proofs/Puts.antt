@@ -8,7 +8,7 @@ use native.Mathlib.Omega.{arith}
 use lib.Dec.{leb}
 use lib.ListN.{length, take, drop, length-append}
 use Rattle.std.proofs.shelf.Lists.{take-at, drop-at, take-append-drop, drop-drop, length-take-le, length-drop}
-use Rattle.std.proofs.shelf.Tests.{le-leb, lt-leb}
+use Rattle.std.proofs.shelf.Tests.{le-leb, lt-leb, cond-both}
 use Rattle.text.specs.Bytes.{put, written, next-place}
 
 -- where the text fits, it is written and the next place is the one after it
@@ -45,3 +45,10 @@ put-put buffer at xs ys h =
     let right : drop (n + length ys) (put buffer at xs) ≡ drop (n + length ys) buffer = sym (drop-drop (length ys) n (put buffer at xs)) ∙ ap (drop (length ys)) past ∙ drop-drop (length ys) n buffer in
     let last : n + length ys ≡ at + length (xs ++ ys) = omega (arith, length-append xs ys) in
     ap₂ (λ (l d : List ℕ). l ++ (ys ++ d)) left (right ∙ ap (λ k. drop k buffer) last) ∙ simp append-assoc
+
+-- a text with no bytes changes nothing, wherever it is written
+pub written-none : (buffer : List ℕ) (at : ℕ) → written buffer at [] ≡ buffer
+written-none buffer at = cond-both (leb (at + 0) (length buffer)) (put buffer at []) buffer (λ b. b ≡ buffer) (λ _. put-none buffer at) (λ _. refl)
+
+pub next-none : (buffer : List ℕ) (at : ℕ) → next-place buffer at [] ≡ at
+next-none buffer at = cond-both (leb (at + 0) (length buffer)) (at + 0) at (λ n. n ≡ at) (λ _. add-zero at) (λ _. refl)
