@@ -1,11 +1,9 @@
 -- The part of a text before a byte. Assumes nothing.
 use mathlib.Core.Path.{_≡_, refl, sym, ap, _∙_}
-use mathlib.Core.Bool.{Bool, true, false, cond}
+use mathlib.Core.Bool.{Bool, true, false}
 use mathlib.Core.List.{List, [], _∷_, _++_}
 use mathlib.Core.Logic.{_⊎_, inl, inr}
 use Prim.Native.Nat.{ℕ, suc, _+_, _≤_, _<_}
-use native.Mathlib.Nat.{add-zero}
-use native.Mathlib.Numerals.{add-one}
 use native.Mathlib.Omega.{arith}
 use lib.Dec.{eqb}
 use lib.ListN.{length, take, drop, getD, length-append}
@@ -47,11 +45,14 @@ before-without b (x ∷ xs) = go (before-without b xs) (eqb x b) refl
     go h false e = rw (before-on b x xs e) (without-cons b x (before b xs) e h)
 
 -- a text is the part before its first b, and then nothing, or b and the rest
-pub before-split : (b : ℕ) (xs : List ℕ) → (xs ≡ before b xs) ⊎ (xs ≡ before b xs ++ b ∷ drop (suc (length (before b xs))) xs)
+abbrev pub Split : ℕ → List ℕ → Type 0
+Split b xs = (xs ≡ before b xs) ⊎ (xs ≡ before b xs ++ b ∷ drop (suc (length (before b xs))) xs)
+
+pub before-split : (b : ℕ) (xs : List ℕ) → Split b xs
 before-split b [] = inl refl
 before-split b (x ∷ xs) = go (before-split b xs) (eqb x b) refl
   where
-    go : (xs ≡ before b xs) ⊎ (xs ≡ before b xs ++ b ∷ drop (suc (length (before b xs))) xs) → (t : Bool) → eqb x b ≡ t → (x ∷ xs ≡ before b (x ∷ xs)) ⊎ (x ∷ xs ≡ before b (x ∷ xs) ++ b ∷ drop (suc (length (before b (x ∷ xs)))) (x ∷ xs))
+    go : Split b xs → (t : Bool) → eqb x b ≡ t → Split b (x ∷ xs)
     go h true e = inr (rw (before-here b x xs e) (ap (λ y. y ∷ xs) (eqb-true x b e)))
     go (inl h) false e = inl (rw (before-on b x xs e) (ap (λ ys. x ∷ ys) h))
     go (inr h) false e = inr (rw (before-on b x xs e) (ap (λ ys. x ∷ ys) h))
@@ -67,14 +68,14 @@ before-append b (x ∷ u) r h =
 pub before-length : (b : ℕ) (xs : List ℕ) → length (before b xs) ≤ length xs
 before-length b xs = go (before-split b xs)
   where
-    go : (xs ≡ before b xs) ⊎ (xs ≡ before b xs ++ b ∷ drop (suc (length (before b xs))) xs) → length (before b xs) ≤ length xs
+    go : Split b xs → length (before b xs) ≤ length xs
     go (inl h) = omega (arith, ap length h)
     go (inr h) = omega (arith, ap length h, length-append (before b xs) (b ∷ drop (suc (length (before b xs))) xs))
 
 pub before-take : (b : ℕ) (xs : List ℕ) → take (length (before b xs)) xs ≡ before b xs
 before-take b xs = go (before-split b xs)
   where
-    go : (xs ≡ before b xs) ⊎ (xs ≡ before b xs ++ b ∷ drop (suc (length (before b xs))) xs) → take (length (before b xs)) xs ≡ before b xs
+    go : Split b xs → take (length (before b xs)) xs ≡ before b xs
     go (inl h) = take-all (length (before b xs)) xs (omega (arith, ap length h)) ∙ h
     go (inr h) = ap (take (length (before b xs))) h ∙ take-at (before b xs) (b ∷ drop (suc (length (before b xs))) xs) (length (before b xs)) refl
 

@@ -1,18 +1,19 @@
 -- A text cut in two at a byte. Assumes nothing.
 use mathlib.Core.Path.{_≡_, refl, sym, ap, _∙_}
-use mathlib.Core.Bool.{Bool, true, false, cond}
+use mathlib.Core.Bool.{Bool, true, false}
 use mathlib.Core.List.{List, [], _∷_, _++_}
-use mathlib.Core.Logic.{_⊎_, inl, inr}
-use Prim.Native.Nat.{ℕ, suc, _<_, _≤_}
+use mathlib.Core.Logic.{inl, inr}
+use Prim.Native.Nat.{ℕ, suc, _+_, _-_, _<_, _≤_}
 use native.Mathlib.Omega.{arith}
 use lib.Dec.{eqb}
-use lib.ListN.{length, drop, length-append}
+use lib.ListN.{length, take, drop, length-append}
 use Rattle.std.specs.Options.{mapped}
 use Rattle.std.specs.declared.option.Option.{Option}
 use Rattle.std.specs.declared.option.Option.the-variants.{Some, None}
+use Rattle.std.proofs.shelf.Lists.{take-rest}
 use Rattle.std.proofs.shelf.Tests.{eqb-true, eq-eqb}
 use Rattle.text.specs.Bytes.{before, cut}
-use Rattle.text.proofs.Before.{Without, without-cons, without-parts, before-without, before-split}
+use Rattle.text.proofs.Before.{Without, Split, before-take, without-cons, without-parts, before-without, before-split}
 
 -- the byte x before both parts
 abbrev pub further : ℕ → List ℕ × List ℕ → List ℕ × List ℕ
@@ -62,7 +63,7 @@ cut-some b (x ∷ xs) w r h = go (cut-some b xs) (eqb x b) refl
 pub cut-none : (b : ℕ) (xs : List ℕ) → cut b xs ≡ None → Without b xs
 cut-none b xs h = go (before-split b xs)
   where
-    go : (xs ≡ before b xs) ⊎ (xs ≡ before b xs ++ b ∷ drop (suc (length (before b xs))) xs) → Without b xs
+    go : Split b xs → Without b xs
     go (inl e) = sym e
     go (inr e) =
         let s = ap (cut b) e ∙ cut-append b (before b xs) (drop (suc (length (before b xs))) xs) (before-without b xs) in
@@ -73,7 +74,7 @@ cut-none b xs h = go (before-split b xs)
 pub cut-past : (b : ℕ) (xs : List ℕ) → length xs ≤ length (before b xs) → cut b xs ≡ None
 cut-past b xs l = go (before-split b xs)
   where
-    go : (xs ≡ before b xs) ⊎ (xs ≡ before b xs ++ b ∷ drop (suc (length (before b xs))) xs) → cut b xs ≡ None
+    go : Split b xs → cut b xs ≡ None
     go (inl e) = cut-without b xs (sym e)
     go (inr e) =
         let n = ap length e ∙ length-append (before b xs) (b ∷ drop (suc (length (before b xs))) xs) in
@@ -82,7 +83,14 @@ cut-past b xs l = go (before-split b xs)
 pub cut-at : (b : ℕ) (xs : List ℕ) → length (before b xs) < length xs → cut b xs ≡ Some (before b xs, drop (suc (length (before b xs))) xs)
 cut-at b xs l = go (before-split b xs)
   where
-    go : (xs ≡ before b xs) ⊎ (xs ≡ before b xs ++ b ∷ drop (suc (length (before b xs))) xs) → cut b xs ≡ Some (before b xs, drop (suc (length (before b xs))) xs)
+    go : Split b xs → cut b xs ≡ Some (before b xs, drop (suc (length (before b xs))) xs)
     go (inl e) = let n = ap length e in absurd (omega arith)
     go (inr e) =
         ap (cut b) e ∙ cut-append b (before b xs) (drop (suc (length (before b xs))) xs) (before-without b xs)
+
+-- the two parts as slices, where b stands at `end`
+pub cut-slices : (b : ℕ) (xs : List ℕ) (end : ℕ) → end ≡ length (before b xs) → end < length xs → Some (take (end - 0) xs, take (length xs - (end + 1)) (drop (end + 1) xs)) ≡ cut b xs
+cut-slices b xs end e l =
+    let first : end - 0 ≡ length (before b xs) = omega arith in
+    let next : end + 1 ≡ suc (length (before b xs)) = omega arith in
+    rw (first, before-take b xs, take-rest xs (end + 1), next) (sym (cut-at b xs (omega arith)))

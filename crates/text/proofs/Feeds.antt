@@ -1,18 +1,17 @@
 -- The lines of a text. Assumes nothing.
 use mathlib.Core.Path.{_≡_, refl, sym, ap, _∙_}
-use mathlib.Core.Bool.{Bool, true, false, cond}
+use mathlib.Core.Bool.{Bool, true, false}
 use mathlib.Core.List.{List, [], _∷_, _++_}
-use mathlib.Core.Logic.{_⊎_, inl, inr}
+use mathlib.Core.Logic.{inl, inr}
 use Prim.Native.Nat.{ℕ, zero, suc, _+_, _-_, _<_, _≤_}
 use native.Mathlib.Omega.{arith}
 use lib.Dec.{eqb}
 use lib.ListN.{length, take, drop, length-drop}
 use Rattle.std.proofs.shelf.Lists.{drop-all, drop-drop}
-use Rattle.std.specs.declared.option.Option.{Option}
 use Rattle.std.specs.declared.option.Option.the-variants.{Some, None}
 use Rattle.text.specs.Bytes.{before}
-use Rattle.text.specs.Lines.{Line, longer, lines, line-at}
-use Rattle.text.proofs.Before.{Without, without-parts, before-without, before-split, before-take}
+use Rattle.text.specs.Lines.{longer, lines, line-at}
+use Rattle.text.proofs.Before.{Without, Split, without-parts, before-without, before-split, before-take}
 
 lines-on : (x : ℕ) (xs : List ℕ) → eqb x 10 ≡ false → lines (x ∷ xs) ≡ longer x (lines xs)
 lines-on x xs e = rw e
@@ -36,12 +35,13 @@ lines-last (x ∷ y ∷ u) l h =
 pub lines-first : (xs : List ℕ) → 0 < length xs → (e : Bool) × (lines xs ≡ record { bytes = before 10 xs; ended = e } ∷ lines (drop (suc (length (before 10 xs))) xs))
 lines-first xs l = go (before-split 10 xs)
   where
-    go : (xs ≡ before 10 xs) ⊎ (xs ≡ before 10 xs ++ 10 ∷ drop (suc (length (before 10 xs))) xs) → (e : Bool) × (lines xs ≡ record { bytes = before 10 xs; ended = e } ∷ lines (drop (suc (length (before 10 xs))) xs))
+    go : Split 10 xs → (e : Bool) × (lines xs ≡ record { bytes = before 10 xs; ended = e } ∷ lines (drop (suc (length (before 10 xs))) xs))
     go (inl h) =
-        let n = ap length h in
-        (false,
-            ap lines h ∙ lines-last (before 10 xs) (omega arith) (before-without 10 xs) ∙
-                ap (λ ys. record { bytes = before 10 xs; ended = false } ∷ lines ys) (sym (drop-all (suc (length (before 10 xs))) xs (omega arith))))
+        let n = ap length h in (
+          false,
+          ap lines h ∙ lines-last (before 10 xs) (omega arith) (before-without 10 xs) ∙
+              ap (λ ys. record { bytes = before 10 xs; ended = false } ∷ lines ys) (sym (drop-all (suc (length (before 10 xs))) xs (omega arith))),
+        )
     go (inr h) = (true, ap lines h ∙ lines-feed (before 10 xs) (drop (suc (length (before 10 xs))) xs) (before-without 10 xs))
 
 -- the first line of a text by number, and any later one

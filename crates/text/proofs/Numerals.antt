@@ -1,17 +1,16 @@
 -- Numbers of one to three digits, and their texts. Assumes nothing.
-use mathlib.Core.Path.{_≡_, refl, sym, ap, _∙_}
-use mathlib.Core.Bool.{Bool, true, false, cond, not, _&&_}
+use mathlib.Core.Path.{_≡_, refl, sym, ap}
+use mathlib.Core.Bool.{true, false, not}
 use mathlib.Core.List.{List, [], _∷_}
 use mathlib.Core.Logic.{_⊎_, inl, inr}
 use Prim.Native.Nat.{ℕ, _+_, _-_, _*_, _/_, _%_, _<_, _≤_}
 use native.Mathlib.Omega.{arith}
-use lib.Dec.{leb, ltb, eqb}
 use lib.ListN.{length, getD}
 use Rattle.std.specs.Options.{Cases}
 use Rattle.std.specs.shelf.Lists.{All}
 use Rattle.std.specs.declared.option.Option.{Option}
 use Rattle.std.specs.declared.option.Option.the-variants.{Some, None}
-use Rattle.std.proofs.shelf.Tests.{lt-ltb, le-ltb, ltb-true, ltb-false, le-leb, ne-eqb, cases-lt, cond-true, cond-false}
+use Rattle.std.proofs.shelf.Tests.{lt-ltb, le-ltb, ne-eqb, cases-lt}
 use Rattle.std.proofs.shelf.Ways.{tells}
 use Rattle.text.specs.Numbers.{is-digit, decimal, numeral}
 use Rattle.text.proofs.Before.{Without}
@@ -32,14 +31,20 @@ decimal-more n l =
     let u : 100 ≤ n = omega arith in
     rw (le-ltb n 10 t, le-ltb n 100 u, le-ltb n 1000 l)
 
+-- what holds of each of those texts holds of the text of a number
+pub decimal-cases : (P : List ℕ → Type 0) (n : ℕ) → (n < 10 → P ((48 + n) ∷ [])) → (10 ≤ n → n < 100 → P ((48 + n / 10) ∷ (48 + n % 10) ∷ [])) → (100 ≤ n → n < 1000 → P ((48 + n / 100) ∷ (48 + n / 10 % 10) ∷ (48 + n % 10) ∷ [])) → (1000 ≤ n → P []) → P (decimal n)
+decimal-cases P n one two three more = go (cases-lt n 10) (cases-lt n 100) (cases-lt n 1000)
+  where
+    go : (n < 10) ⊎ (10 ≤ n) → (n < 100) ⊎ (100 ≤ n) → (n < 1000) ⊎ (1000 ≤ n) → P (decimal n)
+    go (inl a) b c = rw (decimal-one n a) (one a)
+    go (inr a) (inl b) c = rw (decimal-two n a b) (two a b)
+    go (inr a) (inr b) (inl c) = rw (decimal-three n b c) (three b c)
+    go (inr a) (inr b) (inr c) = rw (decimal-more n c) (more c)
+
 -- what is read from the text of a number is the number
 pub numeral-decimal : (n : ℕ) → n < 1000 → numeral (decimal n) ≡ Some n
-numeral-decimal n h = go (cases-lt n 10) (cases-lt n 100)
-  where
-    go : (n < 10) ⊎ (10 ≤ n) → (n < 100) ⊎ (100 ≤ n) → numeral (decimal n) ≡ Some n
-    go (inl a) b = rw (decimal-one n a) (grind (arith, tells))
-    go (inr a) (inl b) = rw (decimal-two n a b) (grind (arith, tells))
-    go (inr a) (inr b) = rw (decimal-three n b h) (grind (arith, tells))
+numeral-decimal n h =
+    decimal-cases (λ w. numeral w ≡ Some n) n (λ a. grind (arith, tells)) (λ a b. grind (arith, tells)) (λ a b. grind (arith, tells)) (λ a. absurd (omega arith))
 
 -- and a number that is read from a text has that text
 pub numeral-some : (w : List ℕ) (n : ℕ) → numeral w ≡ Some n → (n < 1000) × (w ≡ decimal n)
@@ -59,41 +64,30 @@ numeral-shown w (Some n) e = numeral-some w n (sym e)
 
 -- how long the text of a number is
 pub length-decimal : (n : ℕ) → n < 1000 → (1 ≤ length (decimal n)) × (length (decimal n) ≤ 3)
-length-decimal n h = go (cases-lt n 10) (cases-lt n 100)
-  where
-    go : (n < 10) ⊎ (10 ≤ n) → (n < 100) ⊎ (100 ≤ n) → (1 ≤ length (decimal n)) × (length (decimal n) ≤ 3)
-    go (inl a) b = rw (decimal-one n a) (omega arith)
-    go (inr a) (inl b) = rw (decimal-two n a b) (omega arith)
-    go (inr a) (inr b) = rw (decimal-three n b h) (omega arith)
+length-decimal n h =
+    decimal-cases (λ w. (1 ≤ length w) × (length w ≤ 3)) n (λ a. omega arith) (λ a b. omega arith) (λ a b. omega arith) (λ a. absurd (omega arith))
 
 pub length-decimal-two : (n : ℕ) → n < 100 → length (decimal n) ≤ 2
-length-decimal-two n h = go (cases-lt n 10)
-  where
-    go : (n < 10) ⊎ (10 ≤ n) → length (decimal n) ≤ 2
-    go (inl a) = rw (decimal-one n a) (omega arith)
-    go (inr a) = rw (decimal-two n a h) (omega arith)
+length-decimal-two n h =
+    decimal-cases (λ w. length w ≤ 2) n (λ a. omega arith) (λ a b. omega arith) (λ a b. absurd (omega arith)) (λ a. absurd (omega arith))
 
 pub length-decimal-one : (n : ℕ) → n < 10 → length (decimal n) ≡ 1
-length-decimal-one n h = rw (decimal-one n h)
+length-decimal-one n h = ap length (decimal-one n h)
 
--- each byte of the text of a number is a digit, so a byte that is no digit does not stand in it
-pub decimal-without : (b n : ℕ) → is-digit b ≡ false → Without b (decimal n)
-decimal-without b n d = go (cases-lt n 10) (cases-lt n 100) (cases-lt n 1000)
-  where
-    go : (n < 10) ⊎ (10 ≤ n) → (n < 100) ⊎ (100 ≤ n) → (n < 1000) ⊎ (1000 ≤ n) → Without b (decimal n)
-    go (inl a) e f = rw (decimal-one n a) (grind (arith, tells))
-    go (inr a) (inl e) f = rw (decimal-two n a e) (grind (arith, tells))
-    go (inr a) (inr e) (inl f) = rw (decimal-three n e f) (grind (arith, tells))
-    go (inr a) (inr e) (inr f) = rw (decimal-more n f)
-
+-- each byte of the text of a number is a digit, so a byte that is none does not stand in it
 pub decimal-digits : (n : ℕ) → All (λ b. is-digit b ≡ true) (decimal n)
-decimal-digits n = go (cases-lt n 10) (cases-lt n 100) (cases-lt n 1000)
-  where
-    go : (n < 10) ⊎ (10 ≤ n) → (n < 100) ⊎ (100 ≤ n) → (n < 1000) ⊎ (1000 ≤ n) → All (λ b. is-digit b ≡ true) (decimal n)
-    go (inl a) e f = rw (decimal-one n a) (grind (arith, tells))
-    go (inr a) (inl e) f = rw (decimal-two n a e) (grind (arith, tells))
-    go (inr a) (inr e) (inl f) = rw (decimal-three n e f) (grind (arith, tells))
-    go (inr a) (inr e) (inr f) = rw (decimal-more n f) tt
+decimal-digits n =
+    decimal-cases (All (λ b. is-digit b ≡ true)) n (λ a. grind (arith, tells)) (λ a b. grind (arith, tells)) (λ a b. grind (arith, tells)) (λ a. tt)
+
+pub decimal-without : (b n : ℕ) → is-digit b ≡ false → Without b (decimal n)
+decimal-without b n d =
+    decimal-cases (Without b) n (λ a. grind (arith, tells)) (λ a c. grind (arith, tells)) (λ a c. grind (arith, tells)) (λ a. refl)
+
+pub decimal-no-feed : (n : ℕ) → Without 10 (decimal n)
+decimal-no-feed n = decimal-without 10 n refl
+
+pub decimal-no-blank : (n : ℕ) → Without 32 (decimal n)
+decimal-no-blank n = decimal-without 32 n refl
 
 -- what a text of one, two or three digits shows, by its bytes
 pub numeral-one : (w : List ℕ) → length w ≡ 1 → is-digit (getD w 0 0) ≡ true → Some (getD w 0 0 - 48) ≡ numeral w

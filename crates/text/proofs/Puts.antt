@@ -1,9 +1,8 @@
 -- A text put into a buffer. Assumes nothing.
 use mathlib.Core.Path.{_≡_, refl, sym, ap, ap₂, _∙_}
-use mathlib.Core.Bool.{cond}
-use mathlib.Core.List.{List, [], _∷_, _++_, append-assoc}
-use Prim.Native.Nat.{ℕ, _+_, _-_, _<_, _≤_}
-use native.Mathlib.Nat.{add-zero, add-assoc}
+use mathlib.Core.List.{List, [], _++_, append-assoc}
+use Prim.Native.Nat.{ℕ, _+_, _<_, _≤_}
+use native.Mathlib.Nat.{add-zero}
 use native.Mathlib.Omega.{arith}
 use lib.Dec.{leb}
 use lib.ListN.{length, take, drop, length-append}
@@ -29,7 +28,7 @@ pub put-none : (buffer : List ℕ) (at : ℕ) → put buffer at [] ≡ buffer
 put-none buffer at = rw add-zero (take-append-drop at buffer)
 
 pub length-put : (buffer : List ℕ) (at : ℕ) (bs : List ℕ) → at + length bs ≤ length buffer → length (put buffer at bs) ≡ length buffer
-length-put buffer at bs h = 
+length-put buffer at bs h =
     simp (length-append, length-drop) (let t = length-take-le at buffer (omega arith) in omega arith)
 
 -- two texts put one after the other are the two joined and put at once

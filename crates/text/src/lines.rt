@@ -1,6 +1,5 @@
 // The lines of a text.
 use crate::fields::find;
-
 ghost use mathlib.Core.Path.{_≡_};
 ghost use Rattle.std.specs.Options.{mapped};
 ghost use Rattle.text.specs.Lines.{lines, line-at};

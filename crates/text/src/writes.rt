@@ -37,7 +37,15 @@ pub fn write_number(buffer: &mut [u8], at: usize, number: usize) -> usize
     } else if number < 100 {
         write_bytes(buffer, at, &[digit(number / 10), digit(number % 10)])
     } else if number < 1000 {
-        write_bytes(buffer, at, &[digit(number / 100), digit(number / 10 % 10), digit(number % 10)])
+        write_bytes(
+            buffer,
+            at,
+            &[
+                digit(number / 100),
+                digit(number / 10 % 10),
+                digit(number % 10),
+            ],
+        )
     } else {
         at
     }

@@ -15,20 +15,22 @@ loop-left-again c =
     let xs = c .args .text .now in
     let end = c .find-end .result in
     let left = c .loop-left .left in
-    let on = line-on xs (c .loop-left .at) end (c .if-at-text .taken) (c .find-end .ensures) left (c .loop-left-test .taken) in
+    let on = line-on xs (c .loop-left .at) end (c .if-at-text .taken) (c .find-end .ensures) left (omega arith) in
     let next : line-at (lines (drop (c .if-end-text .at) xs)) (left - 1) ≡ line-at (lines (drop (end + 1) xs)) (left - 1) =
-      elim (c .if-end-text .came) [
-        then-end-text w ↦ ap (λ k. line-at (lines (drop k xs)) (left - 1)) (w .at-is)
+    elim (c .if-end-text .came) [
+      | then-end-text w ↦ ap (λ k. line-at (lines (drop k xs)) (left - 1)) (w .at-is)
       | else-end-text w ↦
-            line-past xs (c .if-end-text .at) (left - 1) (omega arith) ∙ sym (line-past xs (end + 1) (left - 1) (omega arith)) ] in
+          line-past xs (c .if-end-text .at) (left - 1) (omega arith) ∙ sym (line-past xs (end + 1) (left - 1) (omega arith))
+    ] in
     next ∙ sym on ∙ c .loop-left .inv
 
 pub returns-then-left-eq0 : need.returns-then-left-eq0
 returns-then-left-eq0 c =
     let xs = c .args .text .now in
     elim (c .then-left-eq0 .either) [
-      inl e ↦ sym (sym (c .loop-left .inv) ∙ ap (line-at (lines (drop (c .loop-left .at) xs))) e)
-    | inr h ↦ sym (sym (c .loop-left .inv) ∙ line-past xs (c .loop-left .at) (c .loop-left .left) (h .1)) ]
+      | inl e ↦ sym (sym (c .loop-left .inv) ∙ ap (line-at (lines (drop (c .loop-left .at) xs))) e)
+      | inr h ↦ sym (sym (c .loop-left .inv) ∙ line-past xs (c .loop-left .at) (c .loop-left .left) (h .1))
+    ]
 
 pub part-result-end : need.part-result-end
 part-result-end c =

@@ -1,5 +1,4 @@
 -- The line looked for is the line of the number that is left, in what is left of the text.
-use Prim.Native.Nat.{_-_}
 use mathlib.Core.Path.{_≡_}
 use lib.ListN.{drop}
 use Rattle.text.specs.Lines.{lines, line-at}

@@ -1,4 +1,4 @@
-use mathlib.Core.Path.{_≡_, refl, sym, _∙_}
+use mathlib.Core.Path.{refl, sym, _∙_}
 use Prim.Native.Nat.{_-_, _+_, _≤_}
 use native.Mathlib.Omega.{arith}
 use lib.ListN.{length}
@@ -15,5 +15,5 @@ returns c =
     let fits : at + length bs ≤ length old = omega arith in
     record {
       next = sym (next-fits old at bs fits);
-      after = putMid-paste at (at + length bs - at) old (c .copy-from-slice .last .self) bs (length bs) (c .copy-from-slice .ensures .after) (omega arith) refl ∙ paste-all old at bs (length bs) refl ∙ sym (written-fits old at bs fits)
+      after = putMid-paste at (at + length bs - at) old (c .copy-from-slice .last .self) bs (length bs) (c .copy-from-slice .ensures .after) (omega arith) refl ∙ paste-all old at bs (length bs) refl ∙ sym (written-fits old at bs fits);
     }

@@ -1,4 +1,4 @@
-use mathlib.Core.Path.{_≡_, sym, ap, _∙_}
+use mathlib.Core.Path.{sym, ap, _∙_}
 use Rattle.text.specs.Bytes.{written, next-place}
 use Rattle.text.proofs.Numerals.{decimal-more}
 use Rattle.text.proofs.Puts.{written-none, next-none}
@@ -11,5 +11,5 @@ returns-else-number-lt1000 c =
     let none = decimal-more (c .args .number) (c .if-number-lt1000 .left) in
     record {
       next = sym (ap (next-place old at) none ∙ next-none old at);
-      after = sym (ap (written old at) none ∙ written-none old at)
+      after = sym (ap (written old at) none ∙ written-none old at);
     }
