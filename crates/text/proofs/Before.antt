@@ -35,6 +35,13 @@ without-parts b x xs h = go (eqb x b) refl
         absurd (omega arith)
     go false e = let o : x ∷ before b xs ≡ x ∷ xs = sym (before-on b x xs e) ∙ h in (e, cc)
 
+-- two texts without b, one after the other, are without b
+pub without-append : (b : ℕ) (u v : List ℕ) → Without b u → Without b v → Without b (u ++ v)
+without-append b [] v h k = k
+without-append b (x ∷ u) v h k =
+    let p = without-parts b x u h in
+    without-cons b x (u ++ v) (p .0) (without-append b u v (p .1) k)
+
 -- the part before b has no b
 pub before-without : (b : ℕ) (xs : List ℕ) → Without b (before b xs)
 before-without b [] = refl
@@ -64,7 +71,7 @@ before-append b (x ∷ u) r h =
     let p = without-parts b x u h in
     before-on b x (u ++ b ∷ r) (p .0) ∙ ap (λ ys. x ∷ ys) (before-append b u r (p .1))
 
--- b follows the part before it unless that part is the whole text
+-- the part before b is a front of the text
 pub before-length : (b : ℕ) (xs : List ℕ) → length (before b xs) ≤ length xs
 before-length b xs = go (before-split b xs)
   where

@@ -25,17 +25,29 @@ cut-here b x xs e = rw e
 cut-on : (b x : ℕ) (xs : List ℕ) → eqb x b ≡ false → cut b (x ∷ xs) ≡ mapped (further x) (cut b xs)
 cut-on b x xs e = rw e
 
+-- a text that is cut at the b after a part without b
 pub cut-append : (b : ℕ) (w r : List ℕ) → Without b w → cut b (w ++ b ∷ r) ≡ Some (w, r)
 cut-append b [] r h = cut-here b b r (eq-eqb b b refl)
 cut-append b (x ∷ w) r h =
     let p = without-parts b x w h in
     cut-on b x (w ++ b ∷ r) (p .0) ∙ ap (mapped (further x)) (cut-append b w r (p .1))
 
+-- a text without b is not cut, and one that is not cut is without b
 pub cut-without : (b : ℕ) (xs : List ℕ) → Without b xs → cut b xs ≡ None
 cut-without b [] h = refl
 cut-without b (x ∷ xs) h =
     let p = without-parts b x xs h in
     cut-on b x xs (p .0) ∙ ap (mapped (further x)) (cut-without b xs (p .1))
+
+pub cut-none : (b : ℕ) (xs : List ℕ) → cut b xs ≡ None → Without b xs
+cut-none b xs h = go (before-split b xs)
+  where
+    go : Split b xs → Without b xs
+    go (inl e) = sym e
+    go (inr e) =
+        let s = ap (cut b) e ∙ cut-append b (before b xs) (drop (suc (length (before b xs))) xs) (before-without b xs) in
+        let z : _≡_ {A = ℕ} 0 1 = cc in
+        absurd (omega arith)
 
 -- what both parts are without the byte x before them
 cut-later : (b x : ℕ) (xs w r : List ℕ) (o : Option (List ℕ × List ℕ)) → cut b xs ≡ o → mapped (further x) o ≡ Some (w, r) → (v : List ℕ) × (cut b xs ≡ Some (v, r)) × (w ≡ x ∷ v)
@@ -44,6 +56,7 @@ cut-later b x xs w r (Some p) e h =
     let i : further x p ≡ (w, r) = cc in
     (p .0, e ∙ ap (λ t. Some (p .0, t)) (ap (λ q. q .1) i), sym (ap (λ q. q .0) i))
 
+-- the two parts of a text that is cut
 pub cut-some : (b : ℕ) (xs w r : List ℕ) → cut b xs ≡ Some (w, r) → (xs ≡ w ++ b ∷ r) × Without b w
 cut-some b [] w r h = let z : _≡_ {A = ℕ} 0 1 = cc in absurd (omega arith)
 cut-some b (x ∷ xs) w r h = go (cut-some b xs) (eqb x b) refl
@@ -59,16 +72,6 @@ cut-some b (x ∷ xs) w r h = go (cut-some b xs) (eqb x b) refl
         let l = cut-later b x xs w r (cut b xs) refl (sym (cut-on b x xs e) ∙ h) in
         let k = ih (l .0) r (l .1) in
         (rw (l .2) (ap (λ ys. x ∷ ys) (k .0)), rw (l .2) (without-cons b x (l .0) e (k .1)))
-
-pub cut-none : (b : ℕ) (xs : List ℕ) → cut b xs ≡ None → Without b xs
-cut-none b xs h = go (before-split b xs)
-  where
-    go : Split b xs → Without b xs
-    go (inl e) = sym e
-    go (inr e) =
-        let s = ap (cut b) e ∙ cut-append b (before b xs) (drop (suc (length (before b xs))) xs) (before-without b xs) in
-        let z : _≡_ {A = ℕ} 0 1 = cc in
-        absurd (omega arith)
 
 -- the cut by the place of the byte
 pub cut-past : (b : ℕ) (xs : List ℕ) → length xs ≤ length (before b xs) → cut b xs ≡ None

@@ -1,16 +1,16 @@
 -- Numbers of one to three digits, and their texts. Assumes nothing.
 use mathlib.Core.Path.{_≡_, refl, sym, ap}
-use mathlib.Core.Bool.{true, false, not}
+use mathlib.Core.Bool.{true, false}
 use mathlib.Core.List.{List, [], _∷_}
 use mathlib.Core.Logic.{_⊎_, inl, inr}
-use Prim.Native.Nat.{ℕ, _+_, _-_, _*_, _/_, _%_, _<_, _≤_}
+use Prim.Native.Nat.{ℕ, _+_, _/_, _%_, _<_, _≤_}
 use native.Mathlib.Omega.{arith}
 use lib.ListN.{length, getD}
 use Rattle.std.specs.Options.{Cases}
 use Rattle.std.specs.shelf.Lists.{All}
 use Rattle.std.specs.declared.option.Option.{Option}
 use Rattle.std.specs.declared.option.Option.the-variants.{Some, None}
-use Rattle.std.proofs.shelf.Tests.{lt-ltb, le-ltb, ne-eqb, cases-lt}
+use Rattle.std.proofs.shelf.Tests.{lt-ltb, le-ltb, cases-lt}
 use Rattle.std.proofs.shelf.Ways.{tells}
 use Rattle.text.specs.Numbers.{is-digit, decimal, numeral}
 use Rattle.text.proofs.Before.{Without}
@@ -89,21 +89,16 @@ decimal-no-feed n = decimal-without 10 n refl
 pub decimal-no-blank : (n : ℕ) → Without 32 (decimal n)
 decimal-no-blank n = decimal-without 32 n refl
 
--- what a text of one, two or three digits shows, by its bytes
-pub numeral-one : (w : List ℕ) → length w ≡ 1 → is-digit (getD w 0 0) ≡ true → Some (getD w 0 0 - 48) ≡ numeral w
-numeral-one [] l d = absurd (omega arith)
-numeral-one (a ∷ []) l d = rw d
-numeral-one (a ∷ b ∷ rest) l d = absurd (omega arith)
+-- a text of one, two or three bytes is the list of them
+pub one-byte : (w : List ℕ) → length w ≡ 1 → w ≡ getD w 0 0 ∷ []
+one-byte [] l = absurd (omega arith)
+one-byte (a ∷ []) l = refl
+one-byte (a ∷ b ∷ rest) l = absurd (omega arith)
 
-pub numeral-two : (w : List ℕ) → length w ≡ 2 → is-digit (getD w 0 0) ≡ true → is-digit (getD w 1 0) ≡ true → (getD w 0 0 ≡ 48 → ⊥) → Some (10 * (getD w 0 0 - 48) + (getD w 1 0 - 48)) ≡ numeral w
-numeral-two [] l d e z = absurd (omega arith)
-numeral-two (a ∷ []) l d e z = absurd (omega arith)
-numeral-two (a ∷ b ∷ []) l d e z = rw (d, e, ne-eqb a 48 z)
-numeral-two (a ∷ b ∷ c ∷ rest) l d e z = absurd (omega arith)
+pub two-bytes : (w : List ℕ) → length w ≡ 2 → w ≡ getD w 0 0 ∷ getD w 1 0 ∷ []
+two-bytes [] l = absurd (omega arith)
+two-bytes (a ∷ w) l = ap (λ r. a ∷ r) (one-byte w (omega arith))
 
-pub numeral-three : (w : List ℕ) → length w ≡ 3 → is-digit (getD w 0 0) ≡ true → is-digit (getD w 1 0) ≡ true → is-digit (getD w 2 0) ≡ true → (getD w 0 0 ≡ 48 → ⊥) → Some (100 * (getD w 0 0 - 48) + 10 * (getD w 1 0 - 48) + (getD w 2 0 - 48)) ≡ numeral w
-numeral-three [] l d e f z = absurd (omega arith)
-numeral-three (a ∷ []) l d e f z = absurd (omega arith)
-numeral-three (a ∷ b ∷ []) l d e f z = absurd (omega arith)
-numeral-three (a ∷ b ∷ c ∷ []) l d e f z = rw (d, e, f, ne-eqb a 48 z)
-numeral-three (a ∷ b ∷ c ∷ x ∷ rest) l d e f z = absurd (omega arith)
+pub three-bytes : (w : List ℕ) → length w ≡ 3 → w ≡ getD w 0 0 ∷ getD w 1 0 ∷ getD w 2 0 ∷ []
+three-bytes [] l = absurd (omega arith)
+three-bytes (a ∷ w) l = ap (λ r. a ∷ r) (two-bytes w (omega arith))

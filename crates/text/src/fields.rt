@@ -1,7 +1,8 @@
 // Parts of a text up to a byte.
 ghost use mathlib.Core.Path.{_≡_};
-ghost use Prim.Native.Nat.{_+_};
+ghost use Prim.Native.Nat.{_+_, _<_};
 ghost use lib.ListN.{length, drop};
+ghost use Rattle.std.specs.Holes.{between};
 ghost use Rattle.std.specs.Options.{mapped};
 ghost use Rattle.text.specs.Bytes.{before, cut};
 
@@ -16,6 +17,15 @@ pub fn find(text: &[u8], from: usize, byte: u8) -> usize
     at
 }
 
+// The parts of `text` before and after the byte at a place.
+fn around(text: &[u8], at: usize) -> (&[u8], &[u8])
+    requires { ⌜ at < length (now text) ⌝ }
+    ensures front { λ r. ⌜ now (r .0) ≡ between 0 at (now (text .entry)) ⌝ }
+    ensures back { λ r. ⌜ now (r .1) ≡ between (at + 1) (length (now (text .entry))) (now (text .entry)) ⌝ }
+{
+    (&text[0..at], &text[at + 1..])
+}
+
 // The parts of `text` before and after its first `byte`.
 pub fn cut_at(text: &[u8], byte: u8) -> Option<(&[u8], &[u8])>
     ensures { λ r. ⌜ mapped (λ p. (now (p .0), now (p .1))) r ≡ cut byte (now (text .entry)) ⌝ }
@@ -24,5 +34,5 @@ pub fn cut_at(text: &[u8], byte: u8) -> Option<(&[u8], &[u8])>
     if end >= text.len() {
         return None;
     }
-    Some((&text[0..end], &text[end + 1..]))
+    Some(around(text, end))
 }
