@@ -1,0 +1,5 @@
+pub mod Bounded
+pub mod Counting
+pub mod Denotation
+pub mod Links
+pub mod Sides

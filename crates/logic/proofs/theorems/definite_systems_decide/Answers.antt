@@ -1,0 +1,4 @@
+use Rattle.logic.proofs.theorems.definite_systems_decide.Needs as need
+
+pub returns : need.returns
+returns c = ?

@@ -1,0 +1,4 @@
+use Rattle.logic.proofs.theorems.formulas_have_one_pair.Needs as need
+
+pub returns : need.returns
+returns c = ?

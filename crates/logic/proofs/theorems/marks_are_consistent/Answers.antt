@@ -1,0 +1,4 @@
+use Rattle.logic.proofs.theorems.marks_are_consistent.Needs as need
+
+pub returns : need.returns
+returns c = ?

@@ -1,0 +1,4 @@
+use Rattle.logic.proofs.theorems.marks_characterise_refinement.Needs as need
+
+pub returns : need.returns
+returns c = ?

@@ -1,0 +1,4 @@
+use Rattle.logic.proofs.theorems.refinement_preserves_marks.Needs as need
+
+pub returns : need.returns
+returns c = ?

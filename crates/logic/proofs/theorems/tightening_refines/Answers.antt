@@ -1,0 +1,4 @@
+use Rattle.logic.proofs.theorems.tightening_refines.Needs as need
+
+pub returns : need.returns
+returns c = ?
