@@ -1,5 +1,10 @@
 pub mod Bounded
 pub mod Counting
 pub mod Denotation
+pub mod Existence
+pub mod Fixed
 pub mod Links
+pub mod Monotone
+pub mod Pairs
 pub mod Sides
+pub mod Unique

@@ -11,7 +11,7 @@ use Rattle.calculus.specs.declared.syntax.Variable.{Variable}
 use Rattle.calculus.specs.declared.syntax.Leaf.the-variants.{True, False, Lamp, Var}
 use Rattle.calculus.specs.declared.syntax.Prefix.the-variants.{Not, Diamond, Box, Least, Greatest}
 use Rattle.calculus.specs.declared.syntax.Binary.{Binary}
-use Rattle.calculus.specs.Formula.{Formula, leaf, prefix, binary, same, at-variable, Standing, unbound, even, odd, negated, is-even, closed-under, within-letters}
+use Rattle.calculus.specs.Formula.{Formula, leaf, prefix, binary, same, at-variable, Standing, unbound, even, odd, negated, is-even, closed-under, closed, within-letters}
 use Rattle.calculus.specs.Pairs.{Pair, leaf-pair, not-pair, binary-pair, diamond-pair, box-pair}
 use Rattle.calculus.specs.Marks.{nothing}
 use Rattle.logic.proofs.Denotation.{iterate, none, every, pair-at}
@@ -55,6 +55,16 @@ as-even P Q unbound e h = absurd (both-ways false refl e)
 as-even P Q even e h = h
 as-even P Q odd e h = absurd (both-ways false refl e)
 
+pub as-both : (P Q : Type 0) (s : Standing) → P → Q → As s P Q
+as-both P Q unbound p q = tt
+as-both P Q even p q = p
+as-both P Q odd p q = q
+
+pub as-mapped : (P P′ Q Q′ : Type 0) (s : Standing) → (P → P′) → (Q → Q′) → As s P Q → As s P′ Q′
+as-mapped P P′ Q Q′ unbound f g h = h
+as-mapped P P′ Q Q′ even f g h = f h
+as-mapped P P′ Q Q′ odd f g h = g h
+
 pub related-at : (K K′ : Pair → Pair → Type 0) (st : Variable → Standing) (e e′ : Variable → Pair) (x : Variable) (p q : Pair) → Related K K′ st e e′ → K p q → Related K K′ (at-variable st x even) (at-variable e x p) (at-variable e′ x q)
 related-at K K′ st e e′ x p q rel h y = go (same x y)
   where
@@ -92,3 +102,7 @@ formula-kept n k l A C (binary o f g) K K′ kept st cl wl e e′ rel =
     let closeds = and-parts (closed-under st f) (closed-under st g) cl in
     let letters = and-parts (within-letters k l f) (within-letters k l g) wl in
     kept .direct .binary-kept o _ _ _ _ (formula-kept n k l A C f K K′ kept st (closeds .0) (letters .0) e e′ rel) (formula-kept n k l A C g K K′ kept st (closeds .1) (letters .1) e e′ rel)
+
+-- In a closed formula no variable is read from outside.
+pub closed-kept : (n k l : ℕ) (A C : Meaning) (f : Formula) (K K′ : Pair → Pair → Type 0) → Linked k l A C K K′ → closed f ≡ true → within-letters k l f ≡ true → K (pair-at n A f nothing) (pair-at n C f nothing)
+closed-kept n k l A C f K K′ kept cl wl = formula-kept n k l A C f K K′ kept (λ x. unbound) cl wl nothing nothing (λ x. tt)
