@@ -1,10 +1,14 @@
 pub mod Bounded
+pub mod Carrying
 pub mod Counting
 pub mod Denotation
 pub mod Existence
 pub mod Fixed
+pub mod Ladder
 pub mod Links
 pub mod Monotone
 pub mod Pairs
+pub mod Questions
 pub mod Sides
+pub mod Tighter
 pub mod Unique

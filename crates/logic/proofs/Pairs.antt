@@ -28,7 +28,7 @@ within-trans n p q r h k s lt = (λ e. k s lt .0 (h s lt .0 e), λ e. k s lt .1 
 pub within-from-same : (n : ℕ) (p q : Pair) → Same n p q → Within n p q
 within-from-same n p q h s lt = (λ e. sym (h s lt .0) ∙ e, λ e. sym (h s lt .1) ∙ e)
 
-tests-same : (a b : Bool) → (a ≡ true → b ≡ true) → (b ≡ true → a ≡ true) → a ≡ b
+pub tests-same : (a b : Bool) → (a ≡ true → b ≡ true) → (b ≡ true → a ≡ true) → a ≡ b
 tests-same true b h k = sym (h refl)
 tests-same false true h k = k refl
 tests-same false false h k = refl

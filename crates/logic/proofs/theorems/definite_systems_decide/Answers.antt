@@ -1,4 +1,5 @@
+use Rattle.logic.proofs.Questions.{definiteness}
 use Rattle.logic.proofs.theorems.definite_systems_decide.Needs as need
 
 pub returns : need.returns
-returns c = ?
+returns c = definiteness
