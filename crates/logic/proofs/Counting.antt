@@ -1,10 +1,10 @@
 -- A sequence that grows in a size with a bound comes to rest. Assumes nothing.
 use mathlib.Core.Path.{_≡_, refl, ap, _∙_}
-use mathlib.Core.Bool.{Bool, true, false, cond}
+use mathlib.Core.Bool.{Bool, true, false, not, cond}
 use mathlib.Core.Logic.{_⊎_, inl, inr, ⊎-elim}
 use Prim.Native.Nat.{ℕ, zero, suc, _+_, _*_, _≤_, _<_}
 use native.Mathlib.Omega.{arith}
-use Rattle.std.proofs.shelf.Tests.{cases-eq}
+use Rattle.std.proofs.shelf.Tests.{both-ways, cases-eq}
 
 -- the same with the same size, or greater
 abbrev pub Growth : Type 0 → ℕ → ℕ → Type 0
@@ -65,3 +65,11 @@ unfolding bit
 bit-grows true b′ h = let e = h refl in inl (rw e, rw e)
 bit-grows false true h = inr (omega arith)
 bit-grows false false h = inl (refl, refl)
+
+-- the same downwards, counting what fails
+pub bit-falls : (b b′ : Bool) → (b′ ≡ true → b ≡ true) → Growth (b ≡ b′) (bit (not b)) (bit (not b′))
+unfolding bit
+bit-falls true true h = inl (refl, refl)
+bit-falls true false h = inr (omega arith)
+bit-falls false true h = absurd (both-ways false refl (h refl))
+bit-falls false false h = inl (refl, refl)

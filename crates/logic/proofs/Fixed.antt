@@ -7,7 +7,7 @@ use Prim.Native.Nat.{ℕ, zero, suc, _+_, _*_, _≤_, _<_}
 use native.Mathlib.Omega.{arith}
 use Rattle.std.proofs.shelf.Tests.{both-ways}
 use Rattle.calculus.specs.Pairs.{Pair, Same, Within}
-use Rattle.logic.proofs.Counting.{Growth, total, total-grows, total-within, growth-both, growth-with, settles, bit, bit-grows, bit-within}
+use Rattle.logic.proofs.Counting.{Growth, total, total-grows, total-within, growth-both, settles, bit, bit-grows, bit-falls, bit-within}
 use Rattle.logic.proofs.Denotation.{iterate, none, every}
 use Rattle.logic.proofs.Pairs.{same-sym, within-trans, within-from-same, same-from-within}
 
@@ -30,12 +30,6 @@ weight falling p s = bit (not (p .necessary s)) + bit (not (p .possibly s))
 
 size : Direction → ℕ → Pair → ℕ
 size d n p = total n (weight d p)
-
-bit-falls : (b b′ : Bool) → (b′ ≡ true → b ≡ true) → Growth (b ≡ b′) (bit (not b)) (bit (not b′))
-bit-falls true true h = inl (refl, refl)
-bit-falls true false h = growth-with (λ e. absurd (both-ways false refl e)) (bit-grows false true (λ _. refl))
-bit-falls false true h = absurd (both-ways false refl (h refl))
-bit-falls false false h = inl (refl, refl)
 
 size-grows : (d : Direction) (n : ℕ) (p q : Pair) → Toward d n p q → Growth (Same n p q) (size d n p) (size d n q)
 unfolding size weight

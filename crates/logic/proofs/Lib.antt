@@ -1,5 +1,6 @@
 pub mod Bounded
 pub mod Carrying
+pub mod Characteristic
 pub mod Counting
 pub mod Denotation
 pub mod Existence
