@@ -36,11 +36,11 @@ refinement-linked C A R refines = record {
   lamps-ahead = λ a c l r lt e. subst (λ v. is-on v ≡ true) (sym (refines .lights c a l r lt (on-known (A .light a l) e))) e;
   lamps-back = λ a c l r lt e. on-kept (A .light a l) (C .light c l) (refines .lights c a l r lt) e;
   moves-ahead = λ a c x t r lt within e.
-    let answer = refines .certain-moves c a x t r lt within e in
-    (answer .target, answer .joined .lower, answer .move, answer .joined);
+      let answer = refines .certain-moves c a x t r lt within e in
+      (answer .target, answer .joined .lower, answer .move, answer .joined);
   moves-back = λ a c x t r lt within e.
-    let answer = refines .possible-moves c a x t r lt within e in
-    (answer .target, answer .joined .upper, answer .move, answer .joined);
+      let answer = refines .possible-moves c a x t r lt within e in
+      (answer .target, answer .joined .upper, answer .move, answer .joined);
 }
 
 -- what a mark says of the two sets
@@ -80,20 +80,28 @@ preservation C A alike c a (R, refines, joined) f q m settled (p, means, mark) =
   where
     n : ℕ
     n = states A * 2 + states C * 2
+
     below : Question C f
     below = question-of C A alike f q
+
     upper : Pair
     upper = pair-at n A f nothing
+
     lower : Pair
     lower = pair-at n C f nothing
+
     link : Link (actions A) (lamps A) A C needed needed (flipped (Joined C A R))
     link = refinement-linked C A R refines
+
     is : (p .necessary a ≡ upper .necessary a) × (p .possibly a ≡ upper .possibly a)
     is = same-as-computed n A (omega arith) f q p means a (joined .upper)
+
     ahead : upper .necessary a ≡ true → lower .necessary c ≡ true
     ahead = question-carried n A C f q needed needed (flipped (Joined C A R)) link a c joined
+
     behind : lower .possibly c ≡ true → upper .possibly a ≡ true
     behind = question-carried-back n A C f q needed needed (flipped (Joined C A R)) link c a joined
+
     go : {m : Mark} → Settled m → mark-of p a ≡ m → mark-of lower c ≡ m
     go as-true e = marks-true lower c (ahead (sym (is .0) ∙ true-marks p a e))
     go as-false e =

@@ -29,15 +29,17 @@ computed n k l M far (prefix (Box a) f) st cl wl e =
 computed n k l M far (prefix (Least x) f) st cl wl e =
     let q = pair-at n M (prefix (Least x) f) e in
     let F = body n M f e x in
-    let mono = body-monotone n k l M f st e x cl wl in
-    (means-same M f (at-variable e x q) (at-variable e x q) (F q) q (λ y. same-refl (states M) (at-variable e x q y)) (same-sym (states M) q (F q) (at-rest rising (states M) F mono n far)) (computed n k l M far f (at-variable st x even) cl wl (at-variable e x q)),
-    λ r fixed. stays-before rising (states M) F mono r (within-from-same (states M) (F r) r (unique M f (at-variable e x r) (F r) r (computed n k l M far f (at-variable st x even) cl wl (at-variable e x r)) fixed)) n)
+    let mono = body-monotone n k l M f st e x cl wl in (
+      means-same M f (at-variable e x q) (at-variable e x q) (F q) q (λ y. same-refl (states M) (at-variable e x q y)) (same-sym (states M) q (F q) (at-rest rising (states M) F mono n far)) (computed n k l M far f (at-variable st x even) cl wl (at-variable e x q)),
+      λ r fixed. stays-before rising (states M) F mono r (within-from-same (states M) (F r) r (unique M f (at-variable e x r) (F r) r (computed n k l M far f (at-variable st x even) cl wl (at-variable e x r)) fixed)) n,
+    )
 computed n k l M far (prefix (Greatest x) f) st cl wl e =
     let q = pair-at n M (prefix (Greatest x) f) e in
     let F = body n M f e x in
-    let mono = body-monotone n k l M f st e x cl wl in
-    (means-same M f (at-variable e x q) (at-variable e x q) (F q) q (λ y. same-refl (states M) (at-variable e x q y)) (same-sym (states M) q (F q) (at-rest falling (states M) F mono n far)) (computed n k l M far f (at-variable st x even) cl wl (at-variable e x q)),
-    λ r fixed. stays-before falling (states M) F mono r (within-from-same (states M) r (F r) (unique M f (at-variable e x r) r (F r) fixed (computed n k l M far f (at-variable st x even) cl wl (at-variable e x r)))) n)
+    let mono = body-monotone n k l M f st e x cl wl in (
+      means-same M f (at-variable e x q) (at-variable e x q) (F q) q (λ y. same-refl (states M) (at-variable e x q y)) (same-sym (states M) q (F q) (at-rest falling (states M) F mono n far)) (computed n k l M far f (at-variable st x even) cl wl (at-variable e x q)),
+      λ r fixed. stays-before falling (states M) F mono r (within-from-same (states M) r (F r) (unique M f (at-variable e x r) r (F r) fixed (computed n k l M far f (at-variable st x even) cl wl (at-variable e x r)))) n,
+    )
 computed n k l M far (binary o f g) st cl wl e =
     let closeds = and-parts (closed-under st f) (closed-under st g) cl in
     let letters = and-parts (within-letters k l f) (within-letters k l g) wl in

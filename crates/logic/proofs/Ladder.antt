@@ -69,17 +69,17 @@ module _ (C A : Meaning) where
       record {
         lights = λ l lt. agrees-to (A .light a l) (C .light c l) (all-to (lamps A) (λ i. agrees (A .light a i) (C .light c i)) (parts .0) l lt);
         certain-moves = λ x t lt within is.
-          let row = all-to (actions A) (λ y. all (states A) (λ v. not (certain (A .kind a y v)) || any (states C) (λ u. certain (C .kind c y u) && R u v))) (moves .0) x lt in
-          let here = all-to (states A) (λ v. not (certain (A .kind a x v)) || any (states C) (λ u. certain (C .kind c x u) && R u v)) row t within in
-          let found = any-to (states C) (λ u. certain (C .kind c x u) && R u t) (guarded-to (certain (A .kind a x t)) (any (states C) (λ u. certain (C .kind c x u) && R u t)) here is) in
-          let both = and-parts (certain (C .kind c x (found .0))) (R (found .0) t) (found .2) in
-          record { target = found .0; move = both .0; joined = record { lower = found .1; upper = within; related = both .1 } };
+            let row = all-to (actions A) (λ y. all (states A) (λ v. not (certain (A .kind a y v)) || any (states C) (λ u. certain (C .kind c y u) && R u v))) (moves .0) x lt in
+            let here = all-to (states A) (λ v. not (certain (A .kind a x v)) || any (states C) (λ u. certain (C .kind c x u) && R u v)) row t within in
+            let found = any-to (states C) (λ u. certain (C .kind c x u) && R u t) (guarded-to (certain (A .kind a x t)) (any (states C) (λ u. certain (C .kind c x u) && R u t)) here is) in
+            let both = and-parts (certain (C .kind c x (found .0))) (R (found .0) t) (found .2) in
+            record { target = found .0; move = both .0; joined = record { lower = found .1; upper = within; related = both .1 } };
         possible-moves = λ x u lt within is.
-          let row = all-to (actions A) (λ y. all (states C) (λ v. not (possible (C .kind c y v)) || any (states A) (λ t. possible (A .kind a y t) && R v t))) (moves .1) x lt in
-          let here = all-to (states C) (λ v. not (possible (C .kind c x v)) || any (states A) (λ t. possible (A .kind a x t) && R v t)) row u within in
-          let found = any-to (states A) (λ t. possible (A .kind a x t) && R u t) (guarded-to (possible (C .kind c x u)) (any (states A) (λ t. possible (A .kind a x t) && R u t)) here is) in
-          let both = and-parts (possible (A .kind a x (found .0))) (R u (found .0)) (found .2) in
-          record { target = found .0; move = both .0; joined = record { lower = within; upper = found .1; related = both .1 } };
+            let row = all-to (actions A) (λ y. all (states C) (λ v. not (possible (C .kind c y v)) || any (states A) (λ t. possible (A .kind a y t) && R v t))) (moves .1) x lt in
+            let here = all-to (states C) (λ v. not (possible (C .kind c x v)) || any (states A) (λ t. possible (A .kind a x t) && R v t)) row u within in
+            let found = any-to (states A) (λ t. possible (A .kind a x t) && R u t) (guarded-to (possible (C .kind c x u)) (any (states A) (λ t. possible (A .kind a x t) && R u t)) here is) in
+            let both = and-parts (possible (A .kind a x (found .0))) (R u (found .0)) (found .2) in
+            record { target = found .0; move = both .0; joined = record { lower = within; upper = found .1; related = both .1 } };
       }
 
   pub next-from : (R : ℕ → ℕ → Bool) (c a : ℕ) → Stepped C A R c a → next C A R c a ≡ true
@@ -91,14 +91,14 @@ module _ (C A : Meaning) where
       (λ x lt. all-from (states A) (λ t. not (certain (A .kind a x t)) || any (states C) (λ u. certain (C .kind c x u) && R u t))
       (λ t within. guarded-from (certain (A .kind a x t)) (any (states C) (λ u. certain (C .kind c x u) && R u t))
       (λ is.
-        let answer = h .certain-moves x t lt within is in
-        any-from (states C) (λ u. certain (C .kind c x u) && R u t) (answer .target) (answer .joined .lower) (and-from (certain (C .kind c x (answer .target))) (R (answer .target) t) (answer .move) (answer .joined .related))))))
+      let answer = h .certain-moves x t lt within is in
+      any-from (states C) (λ u. certain (C .kind c x u) && R u t) (answer .target) (answer .joined .lower) (and-from (certain (C .kind c x (answer .target))) (R (answer .target) t) (answer .move) (answer .joined .related))))))
       (all-from (actions A) (λ x. all (states C) (λ u. not (possible (C .kind c x u)) || any (states A) (λ t. possible (A .kind a x t) && R u t)))
       (λ x lt. all-from (states C) (λ u. not (possible (C .kind c x u)) || any (states A) (λ t. possible (A .kind a x t) && R u t))
       (λ u within. guarded-from (possible (C .kind c x u)) (any (states A) (λ t. possible (A .kind a x t) && R u t))
       (λ is.
-        let answer = h .possible-moves x u lt within is in
-        any-from (states A) (λ t. possible (A .kind a x t) && R u t) (answer .target) (answer .joined .upper) (and-from (possible (A .kind a x (answer .target))) (R u (answer .target)) (answer .move) (answer .joined .related)))))))
+      let answer = h .possible-moves x u lt within is in
+      any-from (states A) (λ t. possible (A .kind a x t) && R u t) (answer .target) (answer .joined .upper) (and-from (possible (A .kind a x (answer .target))) (R u (answer .target)) (answer .move) (answer .joined .related)))))))
 
   -- R joins no states of C and A that R′ does not join
   abbrev pub Narrower : (ℕ → ℕ → Bool) → (ℕ → ℕ → Bool) → Type 0
@@ -111,11 +111,11 @@ module _ (C A : Meaning) where
   stepped-wider R R′ h c a step = record {
     lights = step .lights;
     certain-moves = λ x t lt within is.
-      let answer = step .certain-moves x t lt within is in
-      record { target = answer .target; move = answer .move; joined = joined-wider R R′ h (answer .target) t (answer .joined) };
+        let answer = step .certain-moves x t lt within is in
+        record { target = answer .target; move = answer .move; joined = joined-wider R R′ h (answer .target) t (answer .joined) };
     possible-moves = λ x u lt within is.
-      let answer = step .possible-moves x u lt within is in
-      record { target = answer .target; move = answer .move; joined = joined-wider R R′ h u (answer .target) (answer .joined) };
+        let answer = step .possible-moves x u lt within is in
+        record { target = answer .target; move = answer .move; joined = joined-wider R R′ h u (answer .target) (answer .joined) };
   }
 
   pub next-wider : (R R′ : ℕ → ℕ → Bool) → Narrower R R′ → (c a : ℕ) → next C A R c a ≡ true → next C A R′ c a ≡ true

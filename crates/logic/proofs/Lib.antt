@@ -1,6 +1,7 @@
 pub mod Bounded
 pub mod Carrying
 pub mod Characteristic
+pub mod Converse
 pub mod Counting
 pub mod Denotation
 pub mod Existence

@@ -65,8 +65,8 @@ consistency M f q p m s lt e =
     let n = states M * 2 in
     let is = same-as-computed n M (omega arith) f q p m s lt in
     let link =
-        itself-linked (actions M) (lamps M) M needed allowed (λ s i within lt h. on-not-off (M .light s i) h) (λ s i within lt h. on-not-off (M .light s i) h) (λ s x t within lt within′ h. certain-possible (M .kind s x t) h)
-        (λ s x t within lt within′ h. certain-possible (M .kind s x t) h) in
+    itself-linked (actions M) (lamps M) M needed allowed (λ s i within lt h. on-not-off (M .light s i) h) (λ s i within lt h. on-not-off (M .light s i) h) (λ s x t within lt within′ h. certain-possible (M .kind s x t) h)
+    (λ s x t within lt within′ h. certain-possible (M .kind s x t) h) in
     is .1 ∙ question-carried n M M f q needed allowed (Itself (states M)) link s s (refl, lt) (sym (is .0) ∙ e)
 
 known-on : (v : Light) → known v ≡ true → not (is-off v) ≡ true → is-on v ≡ true
@@ -79,7 +79,7 @@ definiteness M f definite q p m s lt =
     let n = states M * 2 in
     let is = same-as-computed n M (omega arith) f q p m s lt in
     let link =
-        itself-linked (actions M) (lamps M) M allowed needed (λ s i within lt h. known-on (M .light s i) (definite .lights s i within lt) h) (λ s i within lt h. known-on (M .light s i) (definite .lights s i within lt) h)
-        (λ s x t within lt within′ h. sym (definite .moves s x t within lt within′) ∙ h) (λ s x t within lt within′ h. sym (definite .moves s x t within lt within′) ∙ h) in
+    itself-linked (actions M) (lamps M) M allowed needed (λ s i within lt h. known-on (M .light s i) (definite .lights s i within lt) h) (λ s i within lt h. known-on (M .light s i) (definite .lights s i within lt) h)
+    (λ s x t within lt within′ h. sym (definite .moves s x t within lt within′) ∙ h) (λ s x t within lt within′ h. sym (definite .moves s x t within lt within′) ∙ h) in
     let carried = question-carried n M M f q allowed needed (Itself (states M)) link s s (refl, lt) in
     tests-same (p .necessary s) (p .possibly s) (consistency M f q p m s lt) (λ e. is .0 ∙ carried (sym (is .1) ∙ e))

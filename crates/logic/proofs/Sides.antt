@@ -122,8 +122,8 @@ module _ {k n : ℕ} {A C : Meaning} {g h : Side} {R : ℕ → ℕ → Type 0} (
       all-from (states C) (λ v. not (taken (other h) (C .kind t x v)) || part h q v)
       (λ v within. guarded-from (taken (other h) (C .kind t x v)) (part h q v)
       (λ move.
-        let answer = link .moves-back s t x v r lt within move in
-        carry (answer .0) v (answer .3) (guarded-to (taken (other g) (A .kind s x (answer .0))) (part g p (answer .0)) (held (answer .0) (answer .1)) (answer .2))))
+      let answer = link .moves-back s t x v r lt within move in
+      carry (answer .0) v (answer .3) (guarded-to (taken (other g) (A .kind s x (answer .0))) (part g p (answer .0)) (held (answer .0) (answer .1)) (answer .2))))
 
   binary-carried : (o : Binary) (p p′ q q′ : Pair) → Carried g h R p q → Carried g h R p′ q′ → Carried g h R (binary-pair o p p′) (binary-pair o q q′)
   binary-carried And p p′ q q′ carry carry′ s t r e =

@@ -61,6 +61,7 @@ move-tighter M s x t k optional = record {
   where
     test : ℕ → ℕ → ℕ → Bool
     test u y v = eqb u s && eqb y x && eqb v t
+
     changed : (u y v : ℕ) → test u y v ≡ true → M .kind u y v ≡ Optional
     changed u y v e =
         let ends = and-parts (eqb u s && eqb y x) (eqb v t) e in
@@ -80,6 +81,7 @@ light-tighter M s l v unknown = record {
   where
     test : ℕ → ℕ → Bool
     test u i = eqb u s && eqb i l
+
     changed : (u i : ℕ) → test u i ≡ true → M .light u i ≡ Unknown
     changed u i e =
         let both = and-parts (eqb u s) (eqb i l) e in

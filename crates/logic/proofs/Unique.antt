@@ -40,15 +40,17 @@ means-same M (prefix (Diamond a) f) e e′ q q′ h k m =
     (m .0, means-same M f e e′ (m .0) (m .0) h (same-refl (states M) (m .0)) (m .1), same-trans (states M) q′ q (diamond-pair M a (m .0)) (same-sym (states M) q q′ k) (m .2))
 means-same M (prefix (Box a) f) e e′ q q′ h k m =
     (m .0, means-same M f e e′ (m .0) (m .0) h (same-refl (states M) (m .0)) (m .1), same-trans (states M) q′ q (box-pair M a (m .0)) (same-sym (states M) q q′ k) (m .2))
-means-same M (prefix (Least x) f) e e′ q q′ h k m =
-    (means-same M f (at-variable e x q) (at-variable e′ x q′) q q′ (values-at (states M) e e′ x q q′ h k) k (m .0),
-    λ r fixed. within-trans (states M) q′ q r (within-from-same (states M) q′ q (same-sym (states M) q q′ k))
-    (m .1 r (means-same M f (at-variable e′ x r) (at-variable e x r) r r (values-at (states M) e′ e x r r (values-sym (states M) e e′ h) (same-refl (states M) r)) (same-refl (states M) r) fixed)))
-means-same M (prefix (Greatest x) f) e e′ q q′ h k m =
-    (means-same M f (at-variable e x q) (at-variable e′ x q′) q q′ (values-at (states M) e e′ x q q′ h k) k (m .0),
-    λ r fixed. within-trans (states M) r q q′
-    (m .1 r (means-same M f (at-variable e′ x r) (at-variable e x r) r r (values-at (states M) e′ e x r r (values-sym (states M) e e′ h) (same-refl (states M) r)) (same-refl (states M) r) fixed))
-    (within-from-same (states M) q q′ k))
+means-same M (prefix (Least x) f) e e′ q q′ h k m = (
+  means-same M f (at-variable e x q) (at-variable e′ x q′) q q′ (values-at (states M) e e′ x q q′ h k) k (m .0),
+  λ r fixed. within-trans (states M) q′ q r (within-from-same (states M) q′ q (same-sym (states M) q q′ k))
+      (m .1 r (means-same M f (at-variable e′ x r) (at-variable e x r) r r (values-at (states M) e′ e x r r (values-sym (states M) e e′ h) (same-refl (states M) r)) (same-refl (states M) r) fixed)),
+)
+means-same M (prefix (Greatest x) f) e e′ q q′ h k m = (
+  means-same M f (at-variable e x q) (at-variable e′ x q′) q q′ (values-at (states M) e e′ x q q′ h k) k (m .0),
+  λ r fixed. within-trans (states M) r q q′
+      (m .1 r (means-same M f (at-variable e′ x r) (at-variable e x r) r r (values-at (states M) e′ e x r r (values-sym (states M) e e′ h) (same-refl (states M) r)) (same-refl (states M) r) fixed))
+      (within-from-same (states M) q q′ k),
+)
 means-same M (binary o f g) e e′ q q′ h k m =
     (m .0, m .1, means-same M f e e′ (m .0) (m .0) h (same-refl (states M) (m .0)) (m .2), means-same M g e e′ (m .1) (m .1) h (same-refl (states M) (m .1)) (m .3), same-trans (states M) q′ q (binary-pair o (m .0) (m .1)) (same-sym (states M) q q′ k) (m .4))
 
