@@ -1,12 +1,11 @@
 -- What `any` and `all` say of the numbers below a bound. Assumes nothing.
 use mathlib.Core.Path.{_≡_, refl, ap, _∙_}
 use mathlib.Core.Bool.{Bool, true, false, not, _&&_, _||_}
-use mathlib.Core.Logic.{inl, inr, ⊎-elim}
 use Prim.Native.Nat.{ℕ, zero, suc, _<_}
 use native.Mathlib.Omega.{arith}
 use Rattle.std.specs.Orderings.{Decides}
 use Rattle.std.proofs.shelf.Ways.{decides-below-and, decides-below-or}
-use Rattle.std.proofs.shelf.Tests.{and-parts, and-from, or-cases, or-left, or-right, not-from-true, not-from-false, both-ways, cases-bool}
+use Rattle.std.proofs.shelf.Tests.{both-ways}
 use Rattle.systems.specs.Bounded.{any, all}
 
 any-decides : (n : ℕ) (p : ℕ → Bool) → Decides (any n p) ((k : ℕ) × (k < n) × (p k ≡ true))

@@ -1,23 +1,22 @@
 -- A refinement carries true and false downwards. Assumes nothing.
 use mathlib.Core.Path.{_≡_, refl, sym, ap, subst, _∙_}
 use mathlib.Core.Bool.{Bool, true, false, not, cond}
-use Prim.Native.Nat.{ℕ, _+_, _*_, _≤_, _<_}
+use Prim.Native.Nat.{ℕ, _+_, _*_}
 use native.Mathlib.Omega.{arith}
-use Rattle.std.proofs.shelf.Tests.{both-ways, cases-bool}
+use Rattle.std.proofs.shelf.Tests.{both-ways}
 use Rattle.systems.specs.Meaning.{Meaning, states, actions, lamps}
-use Rattle.systems.specs.Refinement.{Alike, Joined, Refines}
+use Rattle.systems.specs.Refinement.{Joined, Refines}
 use Rattle.systems.specs.Words.{known}
 use Rattle.systems.specs.declared.kinds.Light.{Light}
 use Rattle.systems.specs.declared.kinds.Light.the-variants.{Unknown, On, Off}
 use Rattle.calculus.specs.declared.syntax.Mark.{Mark}
 use Rattle.calculus.specs.declared.syntax.Mark.the-variants.{True, False, Unknown as Open}
-use Rattle.calculus.specs.Formula.{Formula}
-use Rattle.calculus.specs.Pairs.{Pair, Same, is-on, is-off}
-use Rattle.calculus.specs.Marks.{Means, Marked, mark-of, nothing}
-use Rattle.logic.specs.Theorems.{Question, Settled, as-true, as-false, Refined, Carries, Preservation}
+use Rattle.calculus.specs.Pairs.{Pair, is-on, is-off}
+use Rattle.calculus.specs.Marks.{mark-of, nothing}
+use Rattle.logic.specs.Theorems.{Question, Settled, as-true, as-false, Preservation}
 use Rattle.logic.proofs.Denotation.{pair-at}
 use Rattle.logic.proofs.Questions.{question-computed, same-as-computed, question-of, question-carried, question-carried-back, consistency}
-use Rattle.logic.proofs.Sides.{Side, needed, allowed, flipped, Link, Carried, back}
+use Rattle.logic.proofs.Sides.{needed, flipped, Link}
 
 on-known : (v : Light) → is-on v ≡ true → known v ≡ true
 on-known Unknown e = e

@@ -16,7 +16,7 @@ use Rattle.calculus.specs.declared.syntax.Prefix.the-variants.{Not, Diamond, Bo
 use Rattle.calculus.specs.declared.syntax.Binary.{Binary}
 use Rattle.calculus.specs.declared.syntax.Binary.the-variants.{And, Or}
 use Rattle.calculus.specs.Formula.{Formula, leaf, prefix, binary, closed, within-letters}
-use Rattle.calculus.specs.Pairs.{Pair, is-off}
+use Rattle.calculus.specs.Pairs.{is-off}
 use Rattle.calculus.specs.Marks.{nothing}
 use Rattle.logic.specs.Theorems.{Question}
 use Rattle.logic.proofs.Bounded.{any-same, all-same}

@@ -1,20 +1,19 @@
 -- Where true carries over some refinement joins the states, and marks are equal exactly where
 -- refinements join them both ways. Assumes nothing.
-use mathlib.Core.Path.{_≡_, refl, sym, ap, subst, _∙_}
-use mathlib.Core.Bool.{Bool, true, false, cond}
-use mathlib.Core.Logic.{_↔_}
-use Prim.Native.Nat.{ℕ, _*_, _≤_, _<_}
+use mathlib.Core.Path.{_≡_, refl, sym, ap, _∙_}
+use mathlib.Core.Bool.{true, cond}
+use Prim.Native.Nat.{ℕ, _*_, _<_}
 use native.Mathlib.Omega.{arith}
 use lib.Dec.{eqb}
 use Rattle.std.proofs.shelf.Tests.{eq-eqb}
-use Rattle.systems.specs.Meaning.{Meaning, states, actions, lamps}
-use Rattle.systems.specs.Refinement.{Alike, Joined, Refines}
+use Rattle.systems.specs.Meaning.{Meaning, states}
+use Rattle.systems.specs.Refinement.{Alike}
 use Rattle.calculus.specs.declared.syntax.Mark.{Mark}
 use Rattle.calculus.specs.declared.syntax.Mark.the-variants.{True, False, Unknown}
 use Rattle.calculus.specs.Formula.{Formula}
 use Rattle.calculus.specs.Pairs.{Pair}
 use Rattle.calculus.specs.Marks.{Means, Marked, mark-of, nothing}
-use Rattle.logic.specs.Theorems.{Question, Settled, as-true, as-false, Refined, Carries, Carries-true, Equal-marks, Characterisation, Equality}
+use Rattle.logic.specs.Theorems.{Question, as-true, as-false, Refined, Carries, Equal-marks, Characterisation, Equality}
 use Rattle.logic.proofs.Carrying.{preservation, true-marks, marks-true}
 use Rattle.logic.proofs.Characteristic.{characteristic, characteristic-question, characteristic-told}
 use Rattle.logic.proofs.Denotation.{pair-at}

@@ -1,7 +1,7 @@
 -- The pair of a formula, computed: a fixed point is the body iterated, from no state for the least
 -- and from every state for the greatest. Assumes nothing.
 use Prim.Native.Nat.{ℕ, zero, suc}
-use mathlib.Core.Bool.{Bool, true, false}
+use mathlib.Core.Bool.{true, false}
 use Rattle.systems.specs.Meaning.{Meaning}
 use Rattle.calculus.specs.declared.syntax.Variable.{Variable}
 use Rattle.calculus.specs.declared.syntax.Prefix.the-variants.{Not, Diamond, Box, Least, Greatest}

@@ -1,18 +1,18 @@
 -- The computed pair is the formula's pair, where fixed points are iterated at least twice for each
 -- state. Assumes nothing.
-use mathlib.Core.Path.{_≡_, refl}
-use mathlib.Core.Bool.{Bool, true, false}
-use Prim.Native.Nat.{ℕ, suc, _*_, _≤_}
+use mathlib.Core.Path.{_≡_}
+use mathlib.Core.Bool.{true}
+use Prim.Native.Nat.{ℕ, _*_, _≤_}
 use lib.Dec.{ltb}
 use Rattle.std.proofs.shelf.Tests.{and-parts}
 use Rattle.systems.specs.Meaning.{Meaning, states}
 use Rattle.calculus.specs.declared.syntax.Variable.{Variable}
 use Rattle.calculus.specs.declared.syntax.Prefix.the-variants.{Not, Diamond, Box, Least, Greatest}
 use Rattle.calculus.specs.Formula.{Formula, leaf, prefix, binary, at-variable, Standing, even, negated, closed-under, within-letters}
-use Rattle.calculus.specs.Pairs.{Pair, Same, Within, leaf-pair, not-pair, binary-pair, diamond-pair, box-pair}
+use Rattle.calculus.specs.Pairs.{Pair, leaf-pair, not-pair, binary-pair, diamond-pair, box-pair}
 use Rattle.calculus.specs.Marks.{Means}
 use Rattle.logic.proofs.Denotation.{pair-at}
-use Rattle.logic.proofs.Fixed.{Direction, rising, falling, at-rest, stays-before}
+use Rattle.logic.proofs.Fixed.{rising, falling, at-rest, stays-before}
 use Rattle.logic.proofs.Monotone.{body, body-monotone}
 use Rattle.logic.proofs.Pairs.{same-refl, same-sym, within-from-same}
 use Rattle.logic.proofs.Unique.{means-same, unique}

@@ -1,7 +1,7 @@
 -- A formula's pair grows with those of its variables that stand under an even number of negations,
 -- and shrinks with the others. Assumes nothing.
 use mathlib.Core.Path.{_≡_, refl, sym, subst}
-use mathlib.Core.Bool.{Bool, true, false}
+use mathlib.Core.Bool.{true}
 use Prim.Native.Nat.{ℕ, _<_}
 use Rattle.systems.specs.Meaning.{Meaning, states}
 use Rattle.calculus.specs.declared.syntax.Variable.{Variable}
@@ -11,7 +11,7 @@ use Rattle.logic.proofs.Denotation.{pair-at}
 use Rattle.logic.proofs.Fixed.{Monotone}
 use Rattle.logic.proofs.Links.{Related, related-at, as-both, as-mapped, formula-kept}
 use Rattle.logic.proofs.Pairs.{within-refl}
-use Rattle.logic.proofs.Sides.{Side, needed, allowed, other, part, taken, lit, flipped, Link, Carried, linked}
+use Rattle.logic.proofs.Sides.{Side, needed, allowed, other, taken, lit, flipped, Link, Carried, linked}
 
 -- each state below n with itself
 abbrev pub Itself : ℕ → ℕ → ℕ → Type 0

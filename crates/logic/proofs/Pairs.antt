@@ -1,8 +1,7 @@
 -- Equal and contained pairs, and the signs on equal pairs. Assumes nothing.
 use mathlib.Core.Path.{_≡_, refl, sym, ap, _∙_}
 use mathlib.Core.Bool.{Bool, true, false, not, _&&_, _||_}
-use Prim.Native.Nat.{ℕ, _<_}
-use Rattle.std.proofs.shelf.Tests.{both-ways}
+use Prim.Native.Nat.{ℕ}
 use Rattle.systems.specs.Meaning.{Meaning, states}
 use Rattle.systems.specs.Words.{possible, certain}
 use Rattle.calculus.specs.declared.syntax.Binary.{Binary}

@@ -1,10 +1,9 @@
 -- Closed formulas over a system's letters have one pair, its necessary set lies within the possible
 -- one, and in a definite system the two are equal. Assumes nothing.
 use mathlib.Core.Path.{_≡_, refl, sym, subst, _∙_}
-use mathlib.Core.Bool.{Bool, true, false, not}
-use Prim.Native.Nat.{ℕ, _*_, _≤_, _<_}
+use mathlib.Core.Bool.{true, not}
+use Prim.Native.Nat.{ℕ, _*_, _≤_}
 use native.Mathlib.Omega.{arith}
-use Rattle.std.proofs.shelf.Tests.{both-ways}
 use Rattle.systems.specs.Meaning.{Meaning, states, actions, lamps}
 use Rattle.systems.specs.Refinement.{Alike}
 use Rattle.systems.specs.Words.{possible, certain, known}
@@ -15,7 +14,7 @@ use Rattle.systems.specs.declared.kinds.Light.the-variants.{Unknown, On, Off}
 use Rattle.calculus.specs.Formula.{Formula, unbound, within-letters}
 use Rattle.calculus.specs.Pairs.{Pair, Same, is-on, is-off}
 use Rattle.calculus.specs.Marks.{Means, nothing}
-use Rattle.logic.specs.Theorems.{Question, One-pair, Consistency, Definite, Definiteness}
+use Rattle.logic.specs.Theorems.{Question, One-pair, Consistency, Definiteness}
 use Rattle.logic.proofs.Denotation.{pair-at}
 use Rattle.logic.proofs.Existence.{computed}
 use Rattle.logic.proofs.Links.{closed-kept, converse}

@@ -1,7 +1,7 @@
 -- A system that keeps every certain move and known light of another, and has no possible move that
 -- the other lacks, refines it; tightening makes such a system. Assumes nothing.
 use mathlib.Core.Path.{_≡_, refl, sym, ap, subst, _∙_}
-use mathlib.Core.Bool.{Bool, true, false, _&&_, cond}
+use mathlib.Core.Bool.{Bool, true, false, _&&_}
 use Prim.Native.Nat.{ℕ, _<_}
 use lib.Dec.{eqb}
 use Rattle.std.proofs.shelf.Tests.{both-ways, and-parts, cond-both, eqb-true, eq-eqb}
@@ -9,12 +9,10 @@ use Rattle.systems.specs.Meaning.{Meaning, states, actions, lamps, with-move, w
 use Rattle.systems.specs.Refinement.{Alike, Joined, Refines}
 use Rattle.systems.specs.Words.{possible, certain, known}
 use Rattle.systems.specs.declared.kinds.Kind.{Kind}
-use Rattle.systems.specs.declared.kinds.Kind.the-variants.{Absent, Optional, Certain}
+use Rattle.systems.specs.declared.kinds.Kind.the-variants.{Optional}
 use Rattle.systems.specs.declared.kinds.Light.{Light}
-use Rattle.systems.specs.declared.kinds.Light.the-variants.{Unknown, On, Off}
-use Rattle.systems.specs.declared.kinds.Sizes.{Sizes}
-use Rattle.calculus.specs.Formula.{Formula}
-use Rattle.logic.specs.Theorems.{Question, Tightening, Tightened, same, moved, lit, Carries, Refined, Kept}
+use Rattle.systems.specs.declared.kinds.Light.the-variants.{Unknown}
+use Rattle.logic.specs.Theorems.{Tightening, Tightened, same, moved, lit, Carries, Refined, Kept}
 use Rattle.logic.proofs.Carrying.{preservation}
 use Rattle.logic.proofs.Questions.{question-of}
 

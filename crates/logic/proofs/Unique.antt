@@ -1,14 +1,13 @@
 -- A formula has at most one pair, and equal pairs of its variables give equal ones. Assumes nothing.
-use mathlib.Core.Path.{_≡_, refl}
 use mathlib.Core.Bool.{Bool, true, false, cond}
-use Prim.Native.Nat.{ℕ, _<_}
+use Prim.Native.Nat.{ℕ}
 use Rattle.systems.specs.Meaning.{Meaning, states}
 use Rattle.calculus.specs.declared.syntax.Variable.{Variable}
 use Rattle.calculus.specs.declared.syntax.Leaf.{Leaf}
 use Rattle.calculus.specs.declared.syntax.Leaf.the-variants.{True, False, Lamp, Var}
 use Rattle.calculus.specs.declared.syntax.Prefix.the-variants.{Not, Diamond, Box, Least, Greatest}
 use Rattle.calculus.specs.Formula.{Formula, leaf, prefix, binary, same, at-variable}
-use Rattle.calculus.specs.Pairs.{Pair, Same, Within, leaf-pair, not-pair, binary-pair, diamond-pair, box-pair}
+use Rattle.calculus.specs.Pairs.{Pair, Same, leaf-pair, not-pair, binary-pair, diamond-pair, box-pair}
 use Rattle.calculus.specs.Marks.{Means}
 use Rattle.logic.proofs.Pairs.{same-refl, same-sym, same-trans, within-trans, within-from-same, same-from-within, not-same, binary-same, diamond-same, box-same}
 
