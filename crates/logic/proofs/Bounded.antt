@@ -1,11 +1,10 @@
 -- What `any` and `all` say of the numbers below a bound. Assumes nothing.
 use mathlib.Core.Path.{_≡_, refl, ap, _∙_}
-use mathlib.Core.Bool.{Bool, true, false, not, _&&_, _||_}
+use mathlib.Core.Bool.{Bool, true, _&&_, _||_}
 use Prim.Native.Nat.{ℕ, zero, suc, _<_}
 use native.Mathlib.Omega.{arith}
 use Rattle.std.specs.Orderings.{Decides}
 use Rattle.std.proofs.shelf.Ways.{decides-below-and, decides-below-or}
-use Rattle.std.proofs.shelf.Tests.{both-ways}
 use Rattle.systems.specs.Bounded.{any, all}
 
 any-decides : (n : ℕ) (p : ℕ → Bool) → Decides (any n p) ((k : ℕ) × (k < n) × (p k ≡ true))
@@ -39,12 +38,3 @@ all-same (suc n) p q h =
     let here : p n ≡ q n = h n (omega arith) in
     let below : all n p ≡ all n q = all-same n p q (λ k lt. h k (omega arith)) in
     ap (λ b. b && all n p) here ∙ ap (λ b. q n && b) below
-
--- a guarded test, `not a || b`, is an implication
-pub guarded-to : (a b : Bool) → (not a || b) ≡ true → a ≡ true → b ≡ true
-guarded-to true b h _ = h
-guarded-to false b _ e = absurd (both-ways false refl e)
-
-pub guarded-from : (a b : Bool) → (a ≡ true → b ≡ true) → (not a || b) ≡ true
-guarded-from true b h = h refl
-guarded-from false b h = refl

@@ -21,7 +21,7 @@ use Rattle.calculus.specs.Marks.{nothing}
 use Rattle.logic.specs.Theorems.{Question}
 use Rattle.logic.proofs.Bounded.{any-same, all-same}
 use Rattle.logic.proofs.Denotation.{pair-at}
-use Rattle.logic.proofs.Ladder.{agrees, lights-agree, certain-answered, possible-answered, ladder}
+use Rattle.logic.proofs.Ladder.{agrees, lights-agree, certain-answer, possible-answer, certain-answered, possible-answered, ladder}
 
 -- the formulas g of the numbers below n, all of them, or some of them
 abbrev pub conjunction : ℕ → (ℕ → Formula) → Formula
@@ -42,13 +42,21 @@ literal l Off = prefix Not (leaf (Lamp l))
 abbrev pub lights-formula : Meaning → ℕ → Formula
 lights-formula A a = conjunction (lamps A) (λ l. literal l (A .light a l))
 
--- each certain move of a can be made, into a state where the formula g of its target holds
-abbrev pub certain-formula : Meaning → (ℕ → Formula) → ℕ → Formula
-certain-formula A g a = conjunction (actions A) (λ x. conjunction (states A) (λ t. cond (certain (A .kind a x t)) (prefix (Diamond x) (g t)) (leaf True)))
+-- a certain move of a on x to t can be made, into a state where the formula g of t holds
+abbrev pub certain-conjunct : Meaning → (ℕ → Formula) → ℕ → ℕ → ℕ → Formula
+certain-conjunct A g a x t = cond (certain (A .kind a x t)) (prefix (Diamond x) (g t)) (leaf True)
 
--- each move enters a state where the formula of some target of a possible move of a holds
+-- the state is one that a possible move of a on x to t allows
+abbrev pub possible-disjunct : Meaning → (ℕ → Formula) → ℕ → ℕ → ℕ → Formula
+possible-disjunct A g a x t = cond (possible (A .kind a x t)) (g t) (leaf False)
+
+-- each certain move of a can be made
+abbrev pub certain-formula : Meaning → (ℕ → Formula) → ℕ → Formula
+certain-formula A g a = conjunction (actions A) (λ x. conjunction (states A) (certain-conjunct A g a x))
+
+-- each move enters a state that some possible move of a allows
 abbrev pub possible-formula : Meaning → (ℕ → Formula) → ℕ → Formula
-possible-formula A g a = conjunction (actions A) (λ x. prefix (Box x) (disjunction (states A) (λ t. cond (possible (A .kind a x t)) (g t) (leaf False))))
+possible-formula A g a = conjunction (actions A) (λ x. prefix (Box x) (disjunction (states A) (possible-disjunct A g a x)))
 
 abbrev pub characteristic : Meaning → ℕ → ℕ → Formula
 characteristic A zero a = leaf True
@@ -86,17 +94,25 @@ module _ (A : Meaning) where
   box-question : (x : ℕ) → x < actions A → (f : Formula) → Question A f → Question A (prefix (Box x) f)
   box-question x lt f q = record { bound = q .bound; lettered = and-from (ltb x (actions A)) (within-letters (actions A) (lamps A) f) (lt-ltb x (actions A) lt) (q .lettered) }
 
+  module _ (g : ℕ → Formula) (each : (t : ℕ) → Question A (g t)) where
+    certain-formula-question : (a : ℕ) → Question A (certain-formula A g a)
+    certain-formula-question a =
+        conjunction-question (actions A) (λ x. conjunction (states A) (certain-conjunct A g a x))
+        (λ x lt. conjunction-question (states A) (certain-conjunct A g a x) (λ t within. certain-question x lt (certain (A .kind a x t)) (g t) (each t)))
+
+    possible-formula-question : (a : ℕ) → Question A (possible-formula A g a)
+    possible-formula-question a =
+        conjunction-question (actions A) (λ x. prefix (Box x) (disjunction (states A) (possible-disjunct A g a x)))
+        (λ x lt. box-question x lt (disjunction (states A) (possible-disjunct A g a x)) (disjunction-question (states A) (possible-disjunct A g a x) (λ t within. possible-question (possible (A .kind a x t)) (g t) (each t))))
+
   pub characteristic-question : (i a : ℕ) → Question A (characteristic A i a)
   characteristic-question zero a = record { bound = refl; lettered = refl }
   characteristic-question (suc i) a =
       let deeper : (t : ℕ) → Question A (characteristic A i t) = characteristic-question i in
-      binary-question And (lights-formula A a) (binary And (certain-formula A (characteristic A i) a) (possible-formula A (characteristic A i) a))
+      let g = characteristic A i in
+      binary-question And (lights-formula A a) (binary And (certain-formula A g a) (possible-formula A g a))
       (conjunction-question (lamps A) (λ l. literal l (A .light a l)) (λ l lt. literal-question l lt (A .light a l)))
-      (binary-question And (certain-formula A (characteristic A i) a) (possible-formula A (characteristic A i) a)
-      (conjunction-question (actions A) (λ x. conjunction (states A) (λ t. cond (certain (A .kind a x t)) (prefix (Diamond x) (characteristic A i t)) (leaf True)))
-      (λ x lt. conjunction-question (states A) (λ t. cond (certain (A .kind a x t)) (prefix (Diamond x) (characteristic A i t)) (leaf True)) (λ t within. certain-question x lt (certain (A .kind a x t)) (characteristic A i t) (deeper t))))
-      (conjunction-question (actions A) (λ x. prefix (Box x) (disjunction (states A) (λ t. cond (possible (A .kind a x t)) (characteristic A i t) (leaf False))))
-      (λ x lt. box-question x lt (disjunction (states A) (λ t. cond (possible (A .kind a x t)) (characteristic A i t) (leaf False))) (disjunction-question (states A) (λ t. cond (possible (A .kind a x t)) (characteristic A i t) (leaf False)) (λ t within. possible-question (possible (A .kind a x t)) (characteristic A i t) (deeper t))))))
+      (binary-question And (certain-formula A g a) (possible-formula A g a) (certain-formula-question g deeper a) (possible-formula-question g deeper a))
 
 -- the formula's computed pair has the state in its necessary set
 abbrev pub holds : ℕ → Meaning → Formula → ℕ → Bool
@@ -125,29 +141,26 @@ module _ (n : ℕ) (C A : Meaning) where
   lights-told : (a c : ℕ) → holds n C (lights-formula A a) c ≡ lights-agree C A c a
   lights-told a c =
       conjunction-holds n C (lamps A) (λ l. literal l (A .light a l)) c ∙
-      all-same (lamps A) (λ l. holds n C (literal l (A .light a l)) c) (λ l. agrees (A .light a l) (C .light c l)) (λ l lt. literal-holds n C l (A .light a l) c)
+      all-same (lamps A) _ _ (λ l lt. literal-holds n C l (A .light a l) c)
 
   module _ (g : ℕ → Formula) (R : ℕ → ℕ → Bool) (told : (t u : ℕ) → holds n C (g t) u ≡ R u t) where
     certain-told : (a c : ℕ) → holds n C (certain-formula A g a) c ≡ certain-answered C A R c a
     certain-told a c =
-        conjunction-holds n C (actions A) (λ x. conjunction (states A) (λ t. cond (certain (A .kind a x t)) (prefix (Diamond x) (g t)) (leaf True))) c ∙
-        all-same (actions A) (λ x. holds n C (conjunction (states A) (λ t. cond (certain (A .kind a x t)) (prefix (Diamond x) (g t)) (leaf True))) c) (λ x. all (states A) (λ t. not (certain (A .kind a x t)) || any (states C) (λ u. certain (C .kind c x u) && R u t)))
-        (λ x lt. conjunction-holds n C (states A) (λ t. cond (certain (A .kind a x t)) (prefix (Diamond x) (g t)) (leaf True)) c ∙
-        all-same (states A) (λ t. holds n C (cond (certain (A .kind a x t)) (prefix (Diamond x) (g t)) (leaf True)) c) (λ t. not (certain (A .kind a x t)) || any (states C) (λ u. certain (C .kind c x u) && R u t))
-        (λ t within. one x t (certain (A .kind a x t))))
+        conjunction-holds n C (actions A) (λ x. conjunction (states A) (certain-conjunct A g a x)) c ∙
+        all-same (actions A) _ _
+        (λ x lt. conjunction-holds n C (states A) (certain-conjunct A g a x) c ∙ all-same (states A) _ (certain-answer C A R c a x) (λ t within. one x t (certain (A .kind a x t))))
       where
         one : (x t : ℕ) (b : Bool) → holds n C (cond b (prefix (Diamond x) (g t)) (leaf True)) c ≡ (not b || any (states C) (λ u. certain (C .kind c x u) && R u t))
-        one x t true = any-same (states C) (λ u. certain (C .kind c x u) && holds n C (g t) u) (λ u. certain (C .kind c x u) && R u t) (λ u within. ap (λ b. certain (C .kind c x u) && b) (told t u))
+        one x t true = any-same (states C) _ _ (λ u within. ap (λ b. certain (C .kind c x u) && b) (told t u))
         one x t false = refl
 
     possible-told : (a c : ℕ) → holds n C (possible-formula A g a) c ≡ possible-answered C A R c a
     possible-told a c =
-        conjunction-holds n C (actions A) (λ x. prefix (Box x) (disjunction (states A) (λ t. cond (possible (A .kind a x t)) (g t) (leaf False)))) c ∙
-        all-same (actions A) (λ x. holds n C (prefix (Box x) (disjunction (states A) (λ t. cond (possible (A .kind a x t)) (g t) (leaf False)))) c) (λ x. all (states C) (λ u. not (possible (C .kind c x u)) || any (states A) (λ t. possible (A .kind a x t) && R u t)))
-        (λ x lt. all-same (states C) (λ u. not (possible (C .kind c x u)) || holds n C (disjunction (states A) (λ t. cond (possible (A .kind a x t)) (g t) (leaf False))) u) (λ u. not (possible (C .kind c x u)) || any (states A) (λ t. possible (A .kind a x t) && R u t))
+        conjunction-holds n C (actions A) (λ x. prefix (Box x) (disjunction (states A) (possible-disjunct A g a x))) c ∙
+        all-same (actions A) _ _
+        (λ x lt. all-same (states C) _ (possible-answer C A R c a x)
         (λ u within. ap (λ b. not (possible (C .kind c x u)) || b)
-        (disjunction-holds n C (states A) (λ t. cond (possible (A .kind a x t)) (g t) (leaf False)) u ∙
-        any-same (states A) (λ t. holds n C (cond (possible (A .kind a x t)) (g t) (leaf False)) u) (λ t. possible (A .kind a x t) && R u t) (λ t within′. one t u (possible (A .kind a x t))))))
+        (disjunction-holds n C (states A) (possible-disjunct A g a x) u ∙ any-same (states A) _ _ (λ t within′. one t u (possible (A .kind a x t))))))
       where
         one : (t u : ℕ) (b : Bool) → holds n C (cond b (g t) (leaf False)) u ≡ (b && R u t)
         one t u true = told t u

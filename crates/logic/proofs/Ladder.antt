@@ -14,9 +14,9 @@ use Rattle.systems.specs.Words.{possible, certain, known}
 use Rattle.systems.specs.declared.kinds.Light.{Light}
 use Rattle.systems.specs.declared.kinds.Light.the-variants.{Unknown, On, Off}
 use Rattle.calculus.specs.Pairs.{is-on, is-off}
-use Rattle.logic.proofs.Bounded.{any-from, any-to, all-from, all-to, guarded-from, guarded-to}
+use Rattle.logic.proofs.Bounded.{any-from, any-to, all-from, all-to}
 use Rattle.logic.proofs.Counting.{total, total-grows, total-within, settles, bit, bit-falls, bit-within}
-use Rattle.logic.proofs.Pairs.{tests-same}
+use Rattle.logic.proofs.Truth.{tests-same, guarded-from, guarded-to}
 
 -- what a light of A asks of C's
 abbrev pub agrees : Light → Light → Bool
@@ -27,11 +27,19 @@ agrees Off v = is-off v
 abbrev pub lights-agree : Meaning → Meaning → ℕ → ℕ → Bool
 lights-agree C A c a = all (lamps A) (λ l. agrees (A .light a l) (C .light c l))
 
+-- a certain move of A from a on x to t is answered by one of C from c
+abbrev pub certain-answer : Meaning → Meaning → (ℕ → ℕ → Bool) → ℕ → ℕ → ℕ → ℕ → Bool
+certain-answer C A R c a x t = not (certain (A .kind a x t)) || any (states C) (λ u. certain (C .kind c x u) && R u t)
+
+-- a possible move of C from c on x to u is answered by one of A from a
+abbrev pub possible-answer : Meaning → Meaning → (ℕ → ℕ → Bool) → ℕ → ℕ → ℕ → ℕ → Bool
+possible-answer C A R c a x u = not (possible (C .kind c x u)) || any (states A) (λ t. possible (A .kind a x t) && R u t)
+
 abbrev pub certain-answered : Meaning → Meaning → (ℕ → ℕ → Bool) → ℕ → ℕ → Bool
-certain-answered C A R c a = all (actions A) (λ x. all (states A) (λ t. not (certain (A .kind a x t)) || any (states C) (λ u. certain (C .kind c x u) && R u t)))
+certain-answered C A R c a = all (actions A) (λ x. all (states A) (certain-answer C A R c a x))
 
 abbrev pub possible-answered : Meaning → Meaning → (ℕ → ℕ → Bool) → ℕ → ℕ → Bool
-possible-answered C A R c a = all (actions A) (λ x. all (states C) (λ u. not (possible (C .kind c x u)) || any (states A) (λ t. possible (A .kind a x t) && R u t)))
+possible-answered C A R c a = all (actions A) (λ x. all (states C) (possible-answer C A R c a x))
 
 -- one step of what a refinement asks, with R for the targets of the moves
 abbrev pub next : Meaning → Meaning → (ℕ → ℕ → Bool) → ℕ → ℕ → Bool
@@ -69,36 +77,44 @@ module _ (C A : Meaning) where
       record {
         lights = λ l lt. agrees-to (A .light a l) (C .light c l) (all-to (lamps A) (λ i. agrees (A .light a i) (C .light c i)) (parts .0) l lt);
         certain-moves = λ x t lt within is.
-            let row = all-to (actions A) (λ y. all (states A) (λ v. not (certain (A .kind a y v)) || any (states C) (λ u. certain (C .kind c y u) && R u v))) (moves .0) x lt in
-            let here = all-to (states A) (λ v. not (certain (A .kind a x v)) || any (states C) (λ u. certain (C .kind c x u) && R u v)) row t within in
-            let found = any-to (states C) (λ u. certain (C .kind c x u) && R u t) (guarded-to (certain (A .kind a x t)) (any (states C) (λ u. certain (C .kind c x u) && R u t)) here is) in
+            let row = all-to (actions A) (λ y. all (states A) (certain-answer C A R c a y)) (moves .0) x lt in
+            let answer = guarded-to (certain (A .kind a x t)) (any (states C) (λ u. certain (C .kind c x u) && R u t)) (all-to (states A) (certain-answer C A R c a x) row t within) is in
+            let found = any-to (states C) (λ u. certain (C .kind c x u) && R u t) answer in
             let both = and-parts (certain (C .kind c x (found .0))) (R (found .0) t) (found .2) in
             record { target = found .0; move = both .0; joined = record { lower = found .1; upper = within; related = both .1 } };
         possible-moves = λ x u lt within is.
-            let row = all-to (actions A) (λ y. all (states C) (λ v. not (possible (C .kind c y v)) || any (states A) (λ t. possible (A .kind a y t) && R v t))) (moves .1) x lt in
-            let here = all-to (states C) (λ v. not (possible (C .kind c x v)) || any (states A) (λ t. possible (A .kind a x t) && R v t)) row u within in
-            let found = any-to (states A) (λ t. possible (A .kind a x t) && R u t) (guarded-to (possible (C .kind c x u)) (any (states A) (λ t. possible (A .kind a x t) && R u t)) here is) in
+            let row = all-to (actions A) (λ y. all (states C) (possible-answer C A R c a y)) (moves .1) x lt in
+            let answer = guarded-to (possible (C .kind c x u)) (any (states A) (λ t. possible (A .kind a x t) && R u t)) (all-to (states C) (possible-answer C A R c a x) row u within) is in
+            let found = any-to (states A) (λ t. possible (A .kind a x t) && R u t) answer in
             let both = and-parts (possible (A .kind a x (found .0))) (R u (found .0)) (found .2) in
             record { target = found .0; move = both .0; joined = record { lower = within; upper = found .1; related = both .1 } };
       }
 
   pub next-from : (R : ℕ → ℕ → Bool) (c a : ℕ) → Stepped C A R c a → next C A R c a ≡ true
-  next-from R c a h =
-      and-from (lights-agree C A c a) (certain-answered C A R c a && possible-answered C A R c a)
-      (all-from (lamps A) (λ l. agrees (A .light a l) (C .light c l)) (λ l lt. agrees-from (A .light a l) (C .light c l) (h .lights l lt)))
-      (and-from (certain-answered C A R c a) (possible-answered C A R c a)
-      (all-from (actions A) (λ x. all (states A) (λ t. not (certain (A .kind a x t)) || any (states C) (λ u. certain (C .kind c x u) && R u t)))
-      (λ x lt. all-from (states A) (λ t. not (certain (A .kind a x t)) || any (states C) (λ u. certain (C .kind c x u) && R u t))
-      (λ t within. guarded-from (certain (A .kind a x t)) (any (states C) (λ u. certain (C .kind c x u) && R u t))
-      (λ is.
-      let answer = h .certain-moves x t lt within is in
-      any-from (states C) (λ u. certain (C .kind c x u) && R u t) (answer .target) (answer .joined .lower) (and-from (certain (C .kind c x (answer .target))) (R (answer .target) t) (answer .move) (answer .joined .related))))))
-      (all-from (actions A) (λ x. all (states C) (λ u. not (possible (C .kind c x u)) || any (states A) (λ t. possible (A .kind a x t) && R u t)))
-      (λ x lt. all-from (states C) (λ u. not (possible (C .kind c x u)) || any (states A) (λ t. possible (A .kind a x t) && R u t))
-      (λ u within. guarded-from (possible (C .kind c x u)) (any (states A) (λ t. possible (A .kind a x t) && R u t))
-      (λ is.
-      let answer = h .possible-moves x u lt within is in
-      any-from (states A) (λ t. possible (A .kind a x t) && R u t) (answer .target) (answer .joined .upper) (and-from (possible (A .kind a x (answer .target))) (R u (answer .target)) (answer .move) (answer .joined .related)))))))
+  next-from R c a h = and-from (lights-agree C A c a) (certain-answered C A R c a && possible-answered C A R c a) lit (and-from (certain-answered C A R c a) (possible-answered C A R c a) certains possibles)
+    where
+      lit : lights-agree C A c a ≡ true
+      lit = all-from (lamps A) (λ l. agrees (A .light a l) (C .light c l)) (λ l lt. agrees-from (A .light a l) (C .light c l) (h .lights l lt))
+
+      certain-one : (x t : ℕ) → x < actions A → t < states A → certain-answer C A R c a x t ≡ true
+      certain-one x t lt within =
+          guarded-from (certain (A .kind a x t)) (any (states C) (λ u. certain (C .kind c x u) && R u t))
+          (λ is.
+          let answer = h .certain-moves x t lt within is in
+          any-from (states C) (λ u. certain (C .kind c x u) && R u t) (answer .target) (answer .joined .lower) (and-from (certain (C .kind c x (answer .target))) (R (answer .target) t) (answer .move) (answer .joined .related)))
+
+      certains : certain-answered C A R c a ≡ true
+      certains = all-from (actions A) (λ x. all (states A) (certain-answer C A R c a x)) (λ x lt. all-from (states A) (certain-answer C A R c a x) (λ t within. certain-one x t lt within))
+
+      possible-one : (x u : ℕ) → x < actions A → u < states C → possible-answer C A R c a x u ≡ true
+      possible-one x u lt within =
+          guarded-from (possible (C .kind c x u)) (any (states A) (λ t. possible (A .kind a x t) && R u t))
+          (λ is.
+          let answer = h .possible-moves x u lt within is in
+          any-from (states A) (λ t. possible (A .kind a x t) && R u t) (answer .target) (answer .joined .upper) (and-from (possible (A .kind a x (answer .target))) (R u (answer .target)) (answer .move) (answer .joined .related)))
+
+      possibles : possible-answered C A R c a ≡ true
+      possibles = all-from (actions A) (λ x. all (states C) (possible-answer C A R c a x)) (λ x lt. all-from (states C) (possible-answer C A R c a x) (λ u within. possible-one x u lt within))
 
   -- R joins no states of C and A that R′ does not join
   abbrev pub Narrower : (ℕ → ℕ → Bool) → (ℕ → ℕ → Bool) → Type 0

@@ -1,7 +1,6 @@
 pub mod Bounded
-pub mod Carrying
+pub mod Characterised
 pub mod Characteristic
-pub mod Converse
 pub mod Counting
 pub mod Denotation
 pub mod Existence
@@ -10,7 +9,9 @@ pub mod Ladder
 pub mod Links
 pub mod Monotone
 pub mod Pairs
+pub mod Preserved
 pub mod Questions
 pub mod Sides
 pub mod Tighter
+pub mod Truth
 pub mod Unique

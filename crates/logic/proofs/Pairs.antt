@@ -8,6 +8,7 @@ use Rattle.calculus.specs.declared.syntax.Binary.{Binary}
 use Rattle.calculus.specs.declared.syntax.Binary.the-variants.{And, Or}
 use Rattle.calculus.specs.Pairs.{Pair, Same, Within, not-pair, binary-pair, diamond-pair, box-pair}
 use Rattle.logic.proofs.Bounded.{any-same, all-same}
+use Rattle.logic.proofs.Truth.{tests-same}
 
 pub same-refl : (n : ℕ) (p : Pair) → Same n p p
 same-refl n p s lt = (refl, refl)
@@ -27,11 +28,6 @@ within-trans n p q r h k s lt = (λ e. k s lt .0 (h s lt .0 e), λ e. k s lt .1 
 pub within-from-same : (n : ℕ) (p q : Pair) → Same n p q → Within n p q
 within-from-same n p q h s lt = (λ e. sym (h s lt .0) ∙ e, λ e. sym (h s lt .1) ∙ e)
 
-pub tests-same : (a b : Bool) → (a ≡ true → b ≡ true) → (b ≡ true → a ≡ true) → a ≡ b
-tests-same true b h k = sym (h refl)
-tests-same false true h k = k refl
-tests-same false false h k = refl
-
 pub same-from-within : (n : ℕ) (p q : Pair) → Within n p q → Within n q p → Same n p q
 same-from-within n p q h k s lt =
     (tests-same (p .necessary s) (q .necessary s) (h s lt .0) (k s lt .0), tests-same (p .possibly s) (q .possibly s) (h s lt .1) (k s lt .1))
@@ -47,8 +43,8 @@ binary-same n Or p p′ q q′ h k s lt =
 
 pub diamond-same : (n : ℕ) (M : Meaning) (x : ℕ) (p q : Pair) → Same (states M) p q → Same n (diamond-pair M x p) (diamond-pair M x q)
 diamond-same n M x p q h s lt =
-    (any-same (states M) (λ t. certain (M .kind s x t) && p .necessary t) (λ t. certain (M .kind s x t) && q .necessary t) (λ t within. ap (λ b. certain (M .kind s x t) && b) (h t within .0)), any-same (states M) (λ t. possible (M .kind s x t) && p .possibly t) (λ t. possible (M .kind s x t) && q .possibly t) (λ t within. ap (λ b. possible (M .kind s x t) && b) (h t within .1)))
+    (any-same (states M) _ _ (λ t within. ap (λ b. certain (M .kind s x t) && b) (h t within .0)), any-same (states M) _ _ (λ t within. ap (λ b. possible (M .kind s x t) && b) (h t within .1)))
 
 pub box-same : (n : ℕ) (M : Meaning) (x : ℕ) (p q : Pair) → Same (states M) p q → Same n (box-pair M x p) (box-pair M x q)
 box-same n M x p q h s lt =
-    (all-same (states M) (λ t. not (possible (M .kind s x t)) || p .necessary t) (λ t. not (possible (M .kind s x t)) || q .necessary t) (λ t within. ap (λ b. not (possible (M .kind s x t)) || b) (h t within .0)), all-same (states M) (λ t. not (certain (M .kind s x t)) || p .possibly t) (λ t. not (certain (M .kind s x t)) || q .possibly t) (λ t within. ap (λ b. not (certain (M .kind s x t)) || b) (h t within .1)))
+    (all-same (states M) _ _ (λ t within. ap (λ b. not (possible (M .kind s x t)) || b) (h t within .0)), all-same (states M) _ _ (λ t within. ap (λ b. not (certain (M .kind s x t)) || b) (h t within .1)))

@@ -19,7 +19,7 @@ use Rattle.logic.proofs.Denotation.{pair-at}
 use Rattle.logic.proofs.Existence.{computed}
 use Rattle.logic.proofs.Links.{closed-kept, converse}
 use Rattle.logic.proofs.Monotone.{Itself, itself-linked}
-use Rattle.logic.proofs.Pairs.{tests-same}
+use Rattle.logic.proofs.Truth.{tests-same}
 use Rattle.logic.proofs.Sides.{Side, needed, allowed, other, flipped, Link, Carried, linked}
 use Rattle.logic.proofs.Unique.{unique}
 

@@ -4,7 +4,7 @@ use mathlib.Core.Path.{_≡_, refl, sym, _∙_}
 use mathlib.Core.Bool.{Bool, true, false, not, _&&_, _||_}
 use mathlib.Core.Logic.{⊎-elim}
 use Prim.Native.Nat.{ℕ, _<_}
-use Rattle.std.proofs.shelf.Tests.{and-parts, and-from, or-cases, or-left, or-right, both-ways}
+use Rattle.std.proofs.shelf.Tests.{not-true, not-from-false, and-parts, and-from, or-cases, or-left, or-right, both-ways}
 use Rattle.systems.specs.Bounded.{any, all}
 use Rattle.systems.specs.Meaning.{Meaning, states}
 use Rattle.systems.specs.Words.{possible, certain}
@@ -15,8 +15,9 @@ use Rattle.calculus.specs.declared.syntax.Binary.{Binary}
 use Rattle.calculus.specs.declared.syntax.Binary.the-variants.{And, Or}
 use Rattle.calculus.specs.Pairs.{Pair, is-on, is-off, leaf-pair, not-pair, binary-pair, diamond-pair, box-pair}
 use Rattle.calculus.specs.Marks.{nothing}
-use Rattle.logic.proofs.Bounded.{any-from, any-to, all-from, all-to, guarded-from, guarded-to}
+use Rattle.logic.proofs.Bounded.{any-from, any-to, all-from, all-to}
 use Rattle.logic.proofs.Denotation.{none, every}
+use Rattle.logic.proofs.Truth.{guarded-from, guarded-to, not-so}
 use Rattle.logic.proofs.Links.{Signs, Linked}
 
 -- a pair's necessary set, or its possible one
@@ -155,9 +156,7 @@ signs-flipped K kept = record {
 }
 
 contra : (a b : Bool) → (a ≡ true → b ≡ true) → not b ≡ true → not a ≡ true
-contra true true h e = e
-contra true false h e = absurd (both-ways false refl (h refl))
-contra false b h e = refl
+contra a b h e = not-from-false a (not-so a b h (not-true b e))
 
 -- A link is kept by every sign.
 pub linked : {k n : ℕ} {A C : Meaning} {g h : Side} {R : ℕ → ℕ → Type 0} → Link k n A C g h R → Linked k n A C (Carried g h R) (λ p q. Carried (other h) (other g) (flipped R) q p)

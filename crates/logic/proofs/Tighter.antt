@@ -13,7 +13,7 @@ use Rattle.systems.specs.declared.kinds.Kind.the-variants.{Optional}
 use Rattle.systems.specs.declared.kinds.Light.{Light}
 use Rattle.systems.specs.declared.kinds.Light.the-variants.{Unknown}
 use Rattle.logic.specs.Theorems.{Tightening, Tightened, same, moved, lit, Carries, Refined, Kept}
-use Rattle.logic.proofs.Carrying.{preservation}
+use Rattle.logic.proofs.Preserved.{preservation}
 use Rattle.logic.proofs.Questions.{question-of}
 
 pub record Tighter (N M : Meaning) : Type 0 where

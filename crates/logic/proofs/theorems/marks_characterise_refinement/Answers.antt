@@ -1,4 +1,4 @@
-use Rattle.logic.proofs.Converse.{characterisation}
+use Rattle.logic.proofs.Characterised.{characterisation}
 use Rattle.logic.proofs.theorems.marks_characterise_refinement.Needs as need
 
 pub returns : need.returns

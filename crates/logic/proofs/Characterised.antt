@@ -14,7 +14,7 @@ use Rattle.calculus.specs.Formula.{Formula}
 use Rattle.calculus.specs.Pairs.{Pair}
 use Rattle.calculus.specs.Marks.{Means, Marked, mark-of, nothing}
 use Rattle.logic.specs.Theorems.{Question, as-true, as-false, Refined, Carries, Equal-marks, Characterisation, Equality}
-use Rattle.logic.proofs.Carrying.{preservation, true-marks, marks-true}
+use Rattle.logic.proofs.Preserved.{preservation, true-marks, marks-true}
 use Rattle.logic.proofs.Characteristic.{characteristic, characteristic-question, characteristic-told}
 use Rattle.logic.proofs.Denotation.{pair-at}
 use Rattle.logic.proofs.Ladder.{ladder, ladder-rests, resting-refines, ladder-widest}

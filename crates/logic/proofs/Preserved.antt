@@ -16,6 +16,7 @@ use Rattle.calculus.specs.Marks.{mark-of, nothing}
 use Rattle.logic.specs.Theorems.{Question, Settled, as-true, as-false, Preservation}
 use Rattle.logic.proofs.Denotation.{pair-at}
 use Rattle.logic.proofs.Questions.{question-computed, same-as-computed, question-of, question-carried, question-carried-back, consistency}
+use Rattle.logic.proofs.Truth.{not-so}
 use Rattle.logic.proofs.Sides.{needed, flipped, Link}
 
 on-known : (v : Light) → is-on v ≡ true → known v ≡ true
@@ -69,10 +70,6 @@ marks-false p s = go (p .necessary s) (p .possibly s)
     go true b h e = absurd (both-ways b e (h refl))
     go false true h e = absurd (both-ways true e refl)
     go false false h e = refl
-
-not-so : (a b : Bool) → (a ≡ true → b ≡ true) → b ≡ false → a ≡ false
-not-so true b h e = absurd (both-ways b e (h refl))
-not-so false b h e = refl
 
 pub preservation : Preservation
 preservation C A alike c a (R, refines, joined) f q m settled (p, means, mark) = (lower, question-computed n C (omega arith) f below, go settled mark)
