@@ -18,7 +18,7 @@ use Rattle.logic.proofs.Preserved.{preservation, true-marks, marks-true}
 use Rattle.logic.proofs.Characteristic.{characteristic, characteristic-question, characteristic-told}
 use Rattle.logic.proofs.Denotation.{pair-at}
 use Rattle.logic.proofs.Ladder.{ladder, ladder-rests, resting-refines, ladder-widest}
-use Rattle.logic.proofs.Questions.{question-computed, same-as-computed, question-of}
+use Rattle.logic.proofs.Questions.{question-computed, question-same, question-of}
 use Rattle.logic.proofs.Tighter.{tighter-refines, tight-itself}
 use Rattle.logic.proofs.Unique.{unique}
 
@@ -35,7 +35,7 @@ pub characteristic-joins : (C A : Meaning) → Alike C A → (i c a : ℕ) → c
 characteristic-joins C A alike i c a within (p, means, mark) =
     let n = states C * 2 in
     let f = characteristic A i a in
-    let is = same-as-computed n C (omega arith) f (question-of C A alike f (characteristic-question A i a)) p means c within in
+    let is = question-same n C (omega arith) f (question-of C A alike f (characteristic-question A i a)) p means c within in
     sym (characteristic-told n C A i a c) ∙ (sym (is .0) ∙ true-marks p c mark)
 
 pub characterisation : Characterisation

@@ -28,10 +28,11 @@ weight : Direction → Pair → ℕ → ℕ
 weight rising p s = bit (p .necessary s) + bit (p .possibly s)
 weight falling p s = bit (not (p .necessary s)) + bit (not (p .possibly s))
 
-size : Direction → ℕ → Pair → ℕ
+-- how far a pair is on the way
+pub size : Direction → ℕ → Pair → ℕ
 size d n p = total n (weight d p)
 
-size-grows : (d : Direction) (n : ℕ) (p q : Pair) → Toward d n p q → Growth (Same n p q) (size d n p) (size d n q)
+pub size-grows : (d : Direction) (n : ℕ) (p q : Pair) → Toward d n p q → Growth (Same n p q) (size d n p) (size d n q)
 unfolding size weight
 size-grows rising n p q h =
     total-grows n (weight rising p) (weight rising q) (λ s. (p .necessary s ≡ q .necessary s) × (p .possibly s ≡ q .possibly s))
@@ -45,17 +46,21 @@ unfolding weight
 weight-within rising p s = omega (arith, bit-within (p .necessary s), bit-within (p .possibly s))
 weight-within falling p s = omega (arith, bit-within (not (p .necessary s)), bit-within (not (p .possibly s)))
 
-size-within : (d : Direction) (n : ℕ) (p : Pair) → size d n p ≤ n * 2
+pub size-within : (d : Direction) (n : ℕ) (p : Pair) → size d n p ≤ n * 2
 unfolding size
 size-within d n p = total-within n 2 (weight d p) (λ s lt. weight-within d p s)
 
-toward-origin : (d : Direction) (n : ℕ) (p : Pair) → Toward d n (origin d) p
+pub toward-origin : (d : Direction) (n : ℕ) (p : Pair) → Toward d n (origin d) p
 toward-origin rising n p = λ s lt. (λ e. absurd (both-ways false refl e), λ e. absurd (both-ways false refl e))
 toward-origin falling n p = λ s lt. (λ e. refl, λ e. refl)
 
-toward-trans : (d : Direction) (n : ℕ) (p q r : Pair) → Toward d n p q → Toward d n q r → Toward d n p r
+pub toward-trans : (d : Direction) (n : ℕ) (p q r : Pair) → Toward d n p q → Toward d n q r → Toward d n p r
 toward-trans rising n p q r h k = within-trans n p q r h k
 toward-trans falling n p q r h k = within-trans n r q p k h
+
+pub toward-from-same : (d : Direction) (n : ℕ) (p q : Pair) → Same n p q → Toward d n p q
+toward-from-same rising n p q h = within-from-same n p q h
+toward-from-same falling n p q h = within-from-same n q p (same-sym n p q h)
 
 abbrev pub Monotone : ℕ → (Pair → Pair) → Type 0
 Monotone n F = (p q : Pair) → Within n p q → Within n (F p) (F q)

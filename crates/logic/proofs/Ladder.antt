@@ -6,7 +6,7 @@ use mathlib.Core.Bool.{Bool, true, false, not, _&&_, _||_}
 use mathlib.Core.Logic.{_⊎_, inl, inr, ⊎-elim}
 use Prim.Native.Nat.{ℕ, zero, suc, _*_, _≤_, _<_}
 use native.Mathlib.Omega.{arith}
-use Rattle.std.proofs.shelf.Tests.{both-ways, and-parts, and-from}
+use Rattle.std.proofs.shelf.Tests.{both-ways, and-parts, and-from, cases-eq}
 use Rattle.systems.specs.Bounded.{any, all}
 use Rattle.systems.specs.Meaning.{Meaning, states, actions, lamps}
 use Rattle.systems.specs.Refinement.{Joined, Answered-certain, Answered-possible, Refines}
@@ -140,6 +140,10 @@ module _ (C A : Meaning) where
   pub ladder-narrows : (i : ℕ) → Narrower (ladder C A (suc i)) (ladder C A i)
   ladder-narrows zero = λ c a c-in a-in e. refl
   ladder-narrows (suc i) = λ c a c-in a-in e. next-wider (ladder C A (suc i)) (ladder C A i) (ladder-narrows i) c a e
+
+  pub ladder-falls : (i j : ℕ) → i ≤ j → Narrower (ladder C A j) (ladder C A i)
+  ladder-falls i zero h = λ c a c-in a-in e. let none : i ≡ 0 = omega arith in rw none e
+  ladder-falls i (suc j) h = λ c a c-in a-in e. ⊎-elim (λ same. rw same e) (λ less. ladder-falls i j (omega arith) c a c-in a-in (ladder-narrows j c a c-in a-in e)) (cases-eq i (suc j))
 
   -- the rung i joins what the next one joins
   abbrev pub Rests : ℕ → Type 0

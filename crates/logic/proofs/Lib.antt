@@ -5,6 +5,7 @@ pub mod Counting
 pub mod Denotation
 pub mod Existence
 pub mod Fixed
+pub mod Iteration
 pub mod Ladder
 pub mod Links
 pub mod Monotone

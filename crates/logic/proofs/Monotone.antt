@@ -55,7 +55,8 @@ module _ (n k l : ℕ) (M : Meaning) (f : Formula) (st : Variable → Standing) 
 abbrev pub body : ℕ → Meaning → Formula → (Variable → Pair) → Variable → Pair → Pair
 body n M f e x p = pair-at n M f (at-variable e x p)
 
+pub ordered-at : (n : ℕ) (st : Variable → Standing) (e : Variable → Pair) (x : Variable) (p q : Pair) → Within n p q → Ordered n (at-variable st x even) (at-variable e x p) (at-variable e x q)
+ordered-at n st e x p q = related-at (Within n) (λ p q. Within n q p) st e e x p q (λ y. as-both (Within n (e y) (e y)) (Within n (e y) (e y)) (st y) (within-refl n (e y)) (within-refl n (e y)))
+
 pub body-monotone : (n k l : ℕ) (M : Meaning) (f : Formula) (st : Variable → Standing) (e : Variable → Pair) (x : Variable) → closed-under (at-variable st x even) f ≡ true → within-letters k l f ≡ true → Monotone (states M) (body n M f e x)
-body-monotone n k l M f st e x cl wl p q h =
-    monotone n k l M f (at-variable st x even) cl wl (at-variable e x p) (at-variable e x q)
-    (related-at (Within (states M)) (λ p q. Within (states M) q p) st e e x p q (λ y. as-both (Within (states M) (e y) (e y)) (Within (states M) (e y) (e y)) (st y) (within-refl (states M) (e y)) (within-refl (states M) (e y))) h)
+body-monotone n k l M f st e x cl wl p q h = monotone n k l M f (at-variable st x even) cl wl (at-variable e x p) (at-variable e x q) (ordered-at (states M) st e x p q h)

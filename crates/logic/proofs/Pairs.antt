@@ -1,6 +1,6 @@
 -- Equal and contained pairs, and the signs on equal pairs. Assumes nothing.
-use mathlib.Core.Path.{_≡_, refl, sym, ap, _∙_}
-use mathlib.Core.Bool.{Bool, true, false, not, _&&_, _||_}
+use mathlib.Core.Path.{refl, sym, ap, _∙_}
+use mathlib.Core.Bool.{not, _&&_, _||_}
 use Prim.Native.Nat.{ℕ}
 use Rattle.systems.specs.Meaning.{Meaning, states}
 use Rattle.systems.specs.Words.{possible, certain}

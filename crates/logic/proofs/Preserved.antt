@@ -15,7 +15,7 @@ use Rattle.calculus.specs.Pairs.{Pair, is-on, is-off}
 use Rattle.calculus.specs.Marks.{mark-of, nothing}
 use Rattle.logic.specs.Theorems.{Question, Settled, as-true, as-false, Preservation}
 use Rattle.logic.proofs.Denotation.{pair-at}
-use Rattle.logic.proofs.Questions.{question-computed, same-as-computed, question-of, question-carried, question-carried-back, consistency}
+use Rattle.logic.proofs.Questions.{question-computed, question-same, question-of, question-carried, question-carried-back, consistency}
 use Rattle.logic.proofs.Truth.{not-so}
 use Rattle.logic.proofs.Sides.{needed, flipped, Link}
 
@@ -90,7 +90,7 @@ preservation C A alike c a (R, refines, joined) f q m settled (p, means, mark) =
     link = refinement-linked C A R refines
 
     is : (p .necessary a ≡ upper .necessary a) × (p .possibly a ≡ upper .possibly a)
-    is = same-as-computed n A (omega arith) f q p means a (joined .upper)
+    is = question-same n A (omega arith) f q p means a (joined .upper)
 
     ahead : upper .necessary a ≡ true → lower .necessary c ≡ true
     ahead = question-carried n A C f q needed needed (flipped (Joined C A R)) link a c joined

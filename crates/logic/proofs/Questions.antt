@@ -16,7 +16,7 @@ use Rattle.calculus.specs.Pairs.{Pair, Same, is-on, is-off}
 use Rattle.calculus.specs.Marks.{Means, nothing}
 use Rattle.logic.specs.Theorems.{Question, One-pair, Consistency, Definiteness}
 use Rattle.logic.proofs.Denotation.{pair-at}
-use Rattle.logic.proofs.Existence.{computed}
+use Rattle.logic.proofs.Existence.{computed, same-as-computed}
 use Rattle.logic.proofs.Links.{closed-kept, converse}
 use Rattle.logic.proofs.Monotone.{Itself, itself-linked}
 use Rattle.logic.proofs.Truth.{tests-same}
@@ -27,8 +27,8 @@ module _ (n : ℕ) (M : Meaning) (far : states M * 2 ≤ n) (f : Formula) (q : Q
   pub question-computed : Means M f nothing (pair-at n M f nothing)
   question-computed = computed n (actions M) (lamps M) M far f (λ x. unbound) (q .bound) (q .lettered) nothing
 
-  pub same-as-computed : (p : Pair) → Means M f nothing p → Same (states M) p (pair-at n M f nothing)
-  same-as-computed p m = unique M f nothing p (pair-at n M f nothing) m question-computed
+  pub question-same : (p : Pair) → Means M f nothing p → Same (states M) p (pair-at n M f nothing)
+  question-same = same-as-computed (actions M) (lamps M) M f (λ x. unbound) (q .bound) (q .lettered) n far nothing
 
 pub one-pair : One-pair
 one-pair M f q =
@@ -62,7 +62,7 @@ certain-possible Certain e = refl
 pub consistency : Consistency
 consistency M f q p m s lt e =
     let n = states M * 2 in
-    let is = same-as-computed n M (omega arith) f q p m s lt in
+    let is = question-same n M (omega arith) f q p m s lt in
     let link =
     itself-linked (actions M) (lamps M) M needed allowed (λ s i within lt h. on-not-off (M .light s i) h) (λ s i within lt h. on-not-off (M .light s i) h) (λ s x t within lt within′ h. certain-possible (M .kind s x t) h)
     (λ s x t within lt within′ h. certain-possible (M .kind s x t) h) in
@@ -76,7 +76,7 @@ known-on Off e h = h
 pub definiteness : Definiteness
 definiteness M f definite q p m s lt =
     let n = states M * 2 in
-    let is = same-as-computed n M (omega arith) f q p m s lt in
+    let is = question-same n M (omega arith) f q p m s lt in
     let link =
     itself-linked (actions M) (lamps M) M allowed needed (λ s i within lt h. known-on (M .light s i) (definite .lights s i within lt) h) (λ s i within lt h. known-on (M .light s i) (definite .lights s i within lt) h)
     (λ s x t within lt within′ h. sym (definite .moves s x t within lt within′) ∙ h) (λ s x t within lt within′ h. sym (definite .moves s x t within lt within′) ∙ h) in
