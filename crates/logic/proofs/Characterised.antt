@@ -1,7 +1,7 @@
 -- Where true carries over some refinement joins the states, and marks are equal exactly where
 -- refinements join them both ways. Assumes nothing.
-use mathlib.Core.Path.{_≡_, refl, sym, ap, _∙_}
-use mathlib.Core.Bool.{true, cond}
+use mathlib.Core.Path.{_≡_, refl, sym, _∙_}
+use mathlib.Core.Bool.{true}
 use Prim.Native.Nat.{ℕ, _*_, _<_}
 use native.Mathlib.Omega.{arith}
 use lib.Dec.{eqb}
@@ -14,13 +14,13 @@ use Rattle.calculus.specs.Formula.{Formula}
 use Rattle.calculus.specs.Pairs.{Pair}
 use Rattle.calculus.specs.Marks.{Means, Marked, mark-of, nothing}
 use Rattle.logic.specs.Theorems.{Question, as-true, as-false, Refined, Carries, Equal-marks, Characterisation, Equality}
-use Rattle.logic.proofs.Preserved.{preservation, true-marks, marks-true}
 use Rattle.logic.proofs.Characteristic.{characteristic, characteristic-question, characteristic-told}
 use Rattle.logic.proofs.Denotation.{pair-at}
 use Rattle.logic.proofs.Ladder.{ladder, ladder-rests, resting-refines, ladder-widest}
+use Rattle.logic.proofs.Marking.{true-marks, marks-true, one-mark}
+use Rattle.logic.proofs.Preserved.{preservation}
 use Rattle.logic.proofs.Questions.{question-computed, question-same, question-of}
 use Rattle.logic.proofs.Tighter.{tighter-refines, tight-itself}
-use Rattle.logic.proofs.Unique.{unique}
 
 -- The characteristic formula of a state is true there, at every depth.
 pub characteristic-true : (A : Meaning) (i a : ℕ) → a < states A → Marked A (characteristic A i a) a True
@@ -44,14 +44,6 @@ characterisation C A alike c a c-in a-in carries =
     let f = characteristic A i a in
     let joins = characteristic-joins C A alike i c a c-in (carries f (characteristic-question A i a) (characteristic-true A i a a-in)) in
     (ladder C A i, resting-refines C A i (ladder-rests C A i (omega arith)), record { lower = c-in; upper = a-in; related = joins })
-
--- a state has one mark
-pub one-mark : (M : Meaning) (f : Formula) (s : ℕ) → s < states M → (m m′ : Mark) → Marked M f s m → Marked M f s m′ → m ≡ m′
-one-mark M f s within m m′ (p, means, mark) (p′, means′, mark′) =
-    let is = unique M f nothing p p′ means means′ s within in
-    let necessary = is .0 in
-    let possibly = is .1 in
-    sym mark ∙ (ap (λ b. cond b True (cond (p .possibly s) Unknown False)) necessary ∙ (ap (λ b. cond (p′ .necessary s) True (cond b Unknown False)) possibly ∙ mark′))
 
 alike-back : (C A : Meaning) → Alike C A → Alike A C
 alike-back C A alike = record { same-actions = sym (alike .same-actions); same-lamps = sym (alike .same-lamps) }
@@ -77,19 +69,19 @@ marks-carried C A c a c-in a-in alike down up f q Unknown marked = go (mark-of p
     go Unknown e = (p, means, e)
 
 pub equality : Equality
-equality C A alike c a c-in a-in = (apart, together)
+equality C A alike c a c-in a-in = (refined, marked)
   where
     other-way : Alike A C
     other-way = alike-back C A alike
 
-    apart : Equal-marks C c A a → Refined C c A a × Refined A a C c
-    apart equal = (
+    refined : Equal-marks C c A a → Refined C c A a × Refined A a C c
+    refined equal = (
       characterisation C A alike c a c-in a-in (λ f q. equal f q True .1),
       characterisation A C other-way a c a-in c-in (λ f q. equal f (question-of A C other-way f q) True .0),
     )
 
-    together : Refined C c A a × Refined A a C c → Equal-marks C c A a
-    together (down, up) f q m =
+    marked : Refined C c A a × Refined A a C c → Equal-marks C c A a
+    marked (down, up) f q m =
         let carries-down = preservation C A alike c a down in
         let carries-up = preservation A C other-way a c up in (
           marks-carried C A c a c-in a-in alike carries-down carries-up f q m,

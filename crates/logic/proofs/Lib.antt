@@ -1,6 +1,7 @@
 pub mod Bounded
 pub mod Characterised
 pub mod Characteristic
+pub mod Consistent
 pub mod Counting
 pub mod Denotation
 pub mod Existence
@@ -8,6 +9,7 @@ pub mod Fixed
 pub mod Iteration
 pub mod Ladder
 pub mod Links
+pub mod Marking
 pub mod Monotone
 pub mod Pairs
 pub mod Preserved

@@ -1,23 +1,23 @@
 -- A refinement carries true and false downwards. Assumes nothing.
-use mathlib.Core.Path.{_≡_, refl, sym, ap, subst, _∙_}
-use mathlib.Core.Bool.{Bool, true, false, not, cond}
+use mathlib.Core.Path.{_≡_, refl, sym, subst, _∙_}
+use mathlib.Core.Bool.{Bool, true, not}
 use Prim.Native.Nat.{ℕ, _+_, _*_}
 use native.Mathlib.Omega.{arith}
-use Rattle.std.proofs.shelf.Tests.{both-ways}
 use Rattle.systems.specs.Meaning.{Meaning, states, actions, lamps}
 use Rattle.systems.specs.Refinement.{Joined, Refines}
 use Rattle.systems.specs.Words.{known}
 use Rattle.systems.specs.declared.kinds.Light.{Light}
 use Rattle.systems.specs.declared.kinds.Light.the-variants.{Unknown, On, Off}
 use Rattle.calculus.specs.declared.syntax.Mark.{Mark}
-use Rattle.calculus.specs.declared.syntax.Mark.the-variants.{True, False, Unknown as Open}
 use Rattle.calculus.specs.Pairs.{Pair, is-on, is-off}
 use Rattle.calculus.specs.Marks.{mark-of, nothing}
 use Rattle.logic.specs.Theorems.{Question, Settled, as-true, as-false, Preservation}
+use Rattle.logic.proofs.Consistent.{consistency}
 use Rattle.logic.proofs.Denotation.{pair-at}
-use Rattle.logic.proofs.Questions.{question-computed, question-same, question-of, question-carried, question-carried-back, consistency}
-use Rattle.logic.proofs.Truth.{not-so}
+use Rattle.logic.proofs.Marking.{true-marks, false-marks, marks-true, marks-false}
+use Rattle.logic.proofs.Questions.{question-computed, question-same, question-of, question-carried, question-carried-back}
 use Rattle.logic.proofs.Sides.{needed, flipped, Link}
+use Rattle.logic.proofs.Truth.{not-so}
 
 on-known : (v : Light) → is-on v ≡ true → known v ≡ true
 on-known Unknown e = e
@@ -42,34 +42,6 @@ refinement-linked C A R refines = record {
       let answer = refines .possible-moves c a x t r lt within e in
       (answer .target, answer .joined .upper, answer .move, answer .joined);
 }
-
--- what a mark says of the two sets
-pub true-marks : (p : Pair) (s : ℕ) → mark-of p s ≡ True → p .necessary s ≡ true
-true-marks p s = go (p .necessary s) (p .possibly s)
-  where
-    go : (a b : Bool) → cond a True (cond b Open False) ≡ True → a ≡ true
-    go true b e = refl
-    go false true e = cc
-    go false false e = cc
-
-pub false-marks : (p : Pair) (s : ℕ) → mark-of p s ≡ False → p .possibly s ≡ false
-false-marks p s = go (p .necessary s) (p .possibly s)
-  where
-    go : (a b : Bool) → cond a True (cond b Open False) ≡ False → b ≡ false
-    go true b e = cc
-    go false true e = cc
-    go false false e = refl
-
-pub marks-true : (p : Pair) (s : ℕ) → p .necessary s ≡ true → mark-of p s ≡ True
-marks-true p s e = ap (λ b. cond b True (cond (p .possibly s) Open False)) e
-
-pub marks-false : (p : Pair) (s : ℕ) → (p .necessary s ≡ true → p .possibly s ≡ true) → p .possibly s ≡ false → mark-of p s ≡ False
-marks-false p s = go (p .necessary s) (p .possibly s)
-  where
-    go : (a b : Bool) → (a ≡ true → b ≡ true) → b ≡ false → cond a True (cond b Open False) ≡ False
-    go true b h e = absurd (both-ways b e (h refl))
-    go false true h e = absurd (both-ways true e refl)
-    go false false h e = refl
 
 pub preservation : Preservation
 preservation C A alike c a (R, refines, joined) f q m settled (p, means, mark) = (lower, question-computed n C (omega arith) f below, go settled mark)

@@ -1,26 +1,18 @@
--- Closed formulas over a system's letters have one pair, its necessary set lies within the possible
--- one, and in a definite system the two are equal. Assumes nothing.
-use mathlib.Core.Path.{_≡_, refl, sym, subst, _∙_}
-use mathlib.Core.Bool.{true, not}
+-- Closed formulas over a system's letters: each has one pair, and links carry its sides. Assumes nothing.
+use mathlib.Core.Path.{_≡_, sym, subst}
+use mathlib.Core.Bool.{true}
 use Prim.Native.Nat.{ℕ, _*_, _≤_}
 use native.Mathlib.Omega.{arith}
 use Rattle.systems.specs.Meaning.{Meaning, states, actions, lamps}
 use Rattle.systems.specs.Refinement.{Alike}
-use Rattle.systems.specs.Words.{possible, certain, known}
-use Rattle.systems.specs.declared.kinds.Kind.{Kind}
-use Rattle.systems.specs.declared.kinds.Kind.the-variants.{Absent, Optional, Certain}
-use Rattle.systems.specs.declared.kinds.Light.{Light}
-use Rattle.systems.specs.declared.kinds.Light.the-variants.{Unknown, On, Off}
 use Rattle.calculus.specs.Formula.{Formula, unbound, within-letters}
-use Rattle.calculus.specs.Pairs.{Pair, Same, is-on, is-off}
+use Rattle.calculus.specs.Pairs.{Pair, Same}
 use Rattle.calculus.specs.Marks.{Means, nothing}
-use Rattle.logic.specs.Theorems.{Question, One-pair, Consistency, Definiteness}
+use Rattle.logic.specs.Theorems.{Question, One-pair}
 use Rattle.logic.proofs.Denotation.{pair-at}
 use Rattle.logic.proofs.Existence.{computed, same-as-computed}
 use Rattle.logic.proofs.Links.{closed-kept, converse}
-use Rattle.logic.proofs.Monotone.{Itself, itself-linked}
-use Rattle.logic.proofs.Truth.{tests-same}
-use Rattle.logic.proofs.Sides.{Side, needed, allowed, other, flipped, Link, Carried, linked}
+use Rattle.logic.proofs.Sides.{Side, other, flipped, Link, Carried, linked}
 use Rattle.logic.proofs.Unique.{unique}
 
 module _ (n : ℕ) (M : Meaning) (far : states M * 2 ≤ n) (f : Formula) (q : Question M f) where
@@ -48,37 +40,3 @@ question-carried n A C f q g h R link = closed-kept n (actions A) (lamps A) A C 
 
 pub question-carried-back : (n : ℕ) (A C : Meaning) (f : Formula) → Question A f → (g h : Side) (R : ℕ → ℕ → Type 0) → Link (actions A) (lamps A) A C g h R → Carried (other h) (other g) (flipped R) (pair-at n C f nothing) (pair-at n A f nothing)
 question-carried-back n A C f q g h R link = closed-kept n (actions A) (lamps A) A C f (λ p r. Carried (other h) (other g) (flipped R) r p) (Carried g h R) (converse (linked link)) (q .bound) (q .lettered)
-
-on-not-off : (v : Light) → is-on v ≡ true → not (is-off v) ≡ true
-on-not-off Unknown e = refl
-on-not-off On e = refl
-on-not-off Off e = e
-
-certain-possible : (m : Kind) → certain m ≡ true → possible m ≡ true
-certain-possible Absent e = e
-certain-possible Optional e = refl
-certain-possible Certain e = refl
-
-pub consistency : Consistency
-consistency M f q p m s lt e =
-    let n = states M * 2 in
-    let is = question-same n M (omega arith) f q p m s lt in
-    let link =
-    itself-linked (actions M) (lamps M) M needed allowed (λ s i within lt h. on-not-off (M .light s i) h) (λ s i within lt h. on-not-off (M .light s i) h) (λ s x t within lt within′ h. certain-possible (M .kind s x t) h)
-    (λ s x t within lt within′ h. certain-possible (M .kind s x t) h) in
-    is .1 ∙ question-carried n M M f q needed allowed (Itself (states M)) link s s (refl, lt) (sym (is .0) ∙ e)
-
-known-on : (v : Light) → known v ≡ true → not (is-off v) ≡ true → is-on v ≡ true
-known-on Unknown e h = e
-known-on On e h = refl
-known-on Off e h = h
-
-pub definiteness : Definiteness
-definiteness M f definite q p m s lt =
-    let n = states M * 2 in
-    let is = question-same n M (omega arith) f q p m s lt in
-    let link =
-    itself-linked (actions M) (lamps M) M allowed needed (λ s i within lt h. known-on (M .light s i) (definite .lights s i within lt) h) (λ s i within lt h. known-on (M .light s i) (definite .lights s i within lt) h)
-    (λ s x t within lt within′ h. sym (definite .moves s x t within lt within′) ∙ h) (λ s x t within lt within′ h. sym (definite .moves s x t within lt within′) ∙ h) in
-    let carried = question-carried n M M f q allowed needed (Itself (states M)) link s s (refl, lt) in
-    tests-same (p .necessary s) (p .possibly s) (consistency M f q p m s lt) (λ e. is .0 ∙ carried (sym (is .1) ∙ e))

@@ -17,8 +17,8 @@ use Rattle.calculus.specs.Pairs.{Pair, is-on, is-off, leaf-pair, not-pair, bina
 use Rattle.calculus.specs.Marks.{nothing}
 use Rattle.logic.proofs.Bounded.{any-from, any-to, all-from, all-to}
 use Rattle.logic.proofs.Denotation.{none, every}
-use Rattle.logic.proofs.Truth.{guarded-from, guarded-to, not-so}
 use Rattle.logic.proofs.Links.{Signs, Linked}
+use Rattle.logic.proofs.Truth.{guarded-from, guarded-to, not-so}
 
 -- a pair's necessary set, or its possible one
 pub data Side : Type 0 where

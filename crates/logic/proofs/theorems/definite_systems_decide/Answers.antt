@@ -1,4 +1,4 @@
-use Rattle.logic.proofs.Questions.{definiteness}
+use Rattle.logic.proofs.Consistent.{definiteness}
 use Rattle.logic.proofs.theorems.definite_systems_decide.Needs as need
 
 pub returns : need.returns

@@ -1,4 +1,4 @@
-use Rattle.logic.proofs.Questions.{consistency}
+use Rattle.logic.proofs.Consistent.{consistency}
 use Rattle.logic.proofs.theorems.marks_are_consistent.Needs as need
 
 pub returns : need.returns
