@@ -4,3 +4,4 @@ pub mod Bounded
 pub mod Refinement
 pub mod Refusals
 pub mod Edits
+pub mod Making

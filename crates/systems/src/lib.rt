@@ -1,9 +1,11 @@
 // Systems whose moves are optional or certain, behind one interface, and the refusals that every
 // call of the project answers with.
+mod builder;
 mod kinds;
 mod refusal;
 mod system;
 
+pub use builder::Builder;
 pub use kinds::Kind;
 pub use kinds::Light;
 pub use kinds::Modality;
