@@ -1,2 +1,11 @@
 // Listings: how a frame or a table of states is written as lines of text, and read back.
 mod forms;
+mod parser;
+mod part;
+mod rejection;
+
+pub use parser::LineParser;
+pub use parser::parse;
+pub use part::Stage;
+pub use part::take_line;
+pub use rejection::Rejection;

@@ -6,7 +6,7 @@ use mathlib.Core.Logic.{inl, inr}
 use Prim.Native.Nat.{ℕ, zero, suc, _+_, _-_, _<_, _≤_}
 use native.Mathlib.Omega.{arith}
 use lib.Dec.{eqb}
-use lib.ListN.{length, take, drop, length-drop}
+use lib.ListN.{length, take, drop, length-drop, length-append}
 use Rattle.std.proofs.shelf.Lists.{drop-all, drop-drop}
 use Rattle.std.specs.declared.option.Option.the-variants.{Some, None}
 use Rattle.text.specs.Bytes.{before}
@@ -73,3 +73,26 @@ line-none (suc n) = refl
 -- past the end there is no line of any number
 pub line-past : (xs : List ℕ) (at left : ℕ) → length xs ≤ at → line-at (lines (drop at xs)) left ≡ None
 line-past xs at left l = ap (λ ys. line-at (lines ys) left) (drop-all at xs l) ∙ line-none left
+
+-- the lines of what is left of a text from the place at on, where the first line ends at `end`: with a
+-- feed within the text, and without one at its end
+module _ (xs : List ℕ) (at end : ℕ) (inside : at < length xs) (here : end ≡ at + length (before 10 (drop at xs))) where
+  pub feed-here : end < length xs → lines (drop at xs) ≡ record { bytes = take (end - at) (drop at xs); ended = true } ∷ lines (drop (end + 1) xs)
+  feed-here within = go (before-split 10 (drop at xs))
+    where
+      go : Split 10 (drop at xs) → lines (drop at xs) ≡ record { bytes = take (end - at) (drop at xs); ended = true } ∷ lines (drop (end + 1) xs)
+      go (inl h) = absurd (omega (arith, ap length h, length-drop at xs))
+      go (inr h) =
+          let u = before 10 (drop at xs) in
+          let n : end - at ≡ length u = omega arith in
+          let p : at + suc (length u) ≡ end + 1 = omega arith in
+          let front : u ≡ take (end - at) (drop at xs) = sym (rw n (before-take 10 (drop at xs))) in
+          let back : drop (suc (length u)) (drop at xs) ≡ drop (end + 1) xs = drop-drop (suc (length u)) at xs ∙ ap (λ k. drop k xs) p in
+          ap lines h ∙ lines-feed u (drop (suc (length u)) (drop at xs)) (before-without 10 (drop at xs)) ∙ (λ i. record { bytes = front i; ended = true } ∷ lines (back i))
+
+  pub open-here : length xs ≤ end → lines (drop at xs) ≡ record { bytes = drop at xs; ended = false } ∷ []
+  open-here past = go (before-split 10 (drop at xs))
+    where
+      go : Split 10 (drop at xs) → lines (drop at xs) ≡ record { bytes = drop at xs; ended = false } ∷ []
+      go (inl h) = lines-last (drop at xs) (omega (arith, length-drop at xs)) (sym h)
+      go (inr h) = absurd (omega (arith, ap length h ∙ length-append (before 10 (drop at xs)) (10 ∷ drop (suc (length (before 10 (drop at xs)))) (drop at xs)), length-drop at xs))
