@@ -1,7 +1,6 @@
 // A draft is something that a system is written into, with places for every move and light.
-ghost use Rattle.sets.specs.Sets.{width};
 ghost use Rattle.frames.specs.Drafts.{drafting};
-ghost use Rattle.frames.specs.Frames.{meaning-of};
+ghost use Rattle.frames.specs.Frames.{draft-meaning};
 use crate::draft::Draft;
 use systems::Builder;
 use systems::Modality;
@@ -10,7 +9,7 @@ use systems::Setting;
 use systems::Sizes;
 
 pub impl Builder for Draft as DraftBuilder {
-    ghost making = { λ d. drafting (meaning-of (d .frame)) };
+    ghost making = { λ d. drafting (draft-meaning d) };
 
     fn size(&mut self, sizes: Sizes) -> Result<(), Refusal> {
         Draft::size(self, sizes)

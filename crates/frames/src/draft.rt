@@ -7,7 +7,7 @@ ghost use Rattle.systems.specs.Edits.{after, size-answer, draw-answer, light-an
 ghost use Rattle.systems.specs.Meaning.{blank, with-move, with-light};
 ghost use Rattle.systems.specs.Words.{drawn, shown};
 ghost use Rattle.frames.specs.Drafts.{first-sizes};
-ghost use Rattle.frames.specs.Frames.{meaning-of};
+ghost use Rattle.frames.specs.Frames.{draft-meaning};
 use crate::frame::Frame;
 use crate::frame::FrameSystem;
 use sets::WIDTH;
@@ -25,7 +25,7 @@ pub struct Draft {
 impl Draft {
     // One state, no actions and no lamps.
     pub fn new() -> Draft
-        ensures { λ r. ⌜ meaning-of (r .frame) ≡ blank first-sizes ⌝ }
+        ensures { λ r. ⌜ draft-meaning r ≡ blank first-sizes ⌝ }
     {
         let sizes = Sizes {
             states: 1,
@@ -56,7 +56,7 @@ impl Draft {
     // Gives the draft these sizes, and removes all moves and lights.
     pub fn size(&mut self, sizes: Sizes) -> Result<(), Refusal>
         ensures answer { λ r. ⌜ r ≡ size-answer width sizes ⌝ }
-        ensures after { λ r. ⌜ meaning-of (now (self .exit) .frame) ≡ after r (blank sizes) (meaning-of (now (self .entry) .frame)) ⌝ }
+        ensures after { λ r. ⌜ draft-meaning (now (self .exit)) ≡ after r (blank sizes) (draft-meaning (now (self .entry))) ⌝ }
     {
         if sizes.states == 0 || sizes.states > WIDTH {
             return Err(Refusal::States);
@@ -79,8 +79,8 @@ impl Draft {
         to: usize,
         modality: Modality,
     ) -> Result<(), Refusal>
-        ensures answer { λ r. ⌜ r ≡ draw-answer (meaning-of (now (self .entry) .frame)) from action to ⌝ }
-        ensures after { λ r. ⌜ meaning-of (now (self .exit) .frame) ≡ after r (with-move (meaning-of (now (self .entry) .frame)) from action to (drawn modality)) (meaning-of (now (self .entry) .frame)) ⌝ }
+        ensures answer { λ r. ⌜ r ≡ draw-answer (draft-meaning (now (self .entry))) from action to ⌝ }
+        ensures after { λ r. ⌜ draft-meaning (now (self .exit)) ≡ after r (with-move (draft-meaning (now (self .entry))) from action to (drawn modality)) (draft-meaning (now (self .entry))) ⌝ }
     {
         let sizes = self.frame.sizes();
         if from >= sizes.states || to >= sizes.states {
@@ -98,8 +98,8 @@ impl Draft {
 
     // Turns an unknown lamp of a state on or off.
     pub fn light(&mut self, state: usize, lamp: usize, setting: Setting) -> Result<(), Refusal>
-        ensures answer { λ r. ⌜ r ≡ light-answer (meaning-of (now (self .entry) .frame)) state lamp ⌝ }
-        ensures after { λ r. ⌜ meaning-of (now (self .exit) .frame) ≡ after r (with-light (meaning-of (now (self .entry) .frame)) state lamp (shown setting)) (meaning-of (now (self .entry) .frame)) ⌝ }
+        ensures answer { λ r. ⌜ r ≡ light-answer (draft-meaning (now (self .entry))) state lamp ⌝ }
+        ensures after { λ r. ⌜ draft-meaning (now (self .exit)) ≡ after r (with-light (draft-meaning (now (self .entry))) state lamp (shown setting)) (draft-meaning (now (self .entry))) ⌝ }
     {
         let sizes = self.frame.sizes();
         if state >= sizes.states {

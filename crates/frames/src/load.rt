@@ -7,7 +7,7 @@ ghost use Rattle.sets.specs.Sets.{width};
 ghost use Rattle.systems.specs.Edits.{after, load-answer};
 ghost use Rattle.systems.specs.Meaning.{move-within, light-within};
 ghost use Rattle.frames.specs.Copies.{moves-from, lights-from};
-ghost use Rattle.frames.specs.Frames.{meaning-of};
+ghost use Rattle.frames.specs.Frames.{meaning-of, draft-meaning};
 use crate::draft::Draft;
 use crate::frame::Frame;
 use crate::frame::FrameSystem;
@@ -19,7 +19,7 @@ impl Draft {
     // The draft becomes a copy of the system.
     pub fn load<S: System>(&mut self, system: &S) -> Result<(), Refusal>
         ensures answer { λ r. ⌜ r ≡ load-answer width (meaning (now (system .entry))) ⌝ }
-        ensures after { λ r. ⌜ meaning-of (now (self .exit) .frame) ≡ after r (meaning (now (system .entry))) (meaning-of (now (self .entry) .frame)) ⌝ }
+        ensures after { λ r. ⌜ draft-meaning (now (self .exit)) ≡ after r (meaning (now (system .entry))) (draft-meaning (now (self .entry))) ⌝ }
     {
         let sizes = system.sizes();
         if sizes.states == 0 || sizes.states > WIDTH {

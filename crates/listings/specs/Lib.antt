@@ -1,3 +1,5 @@
 pub mod Forms
 pub mod Parts
 pub mod Runs
+pub mod Readings
+pub mod Texts

@@ -2,10 +2,15 @@
 mod forms;
 mod parser;
 mod part;
+mod parts;
+mod reader;
 mod rejection;
 
 pub use parser::LineParser;
 pub use parser::parse;
 pub use part::Stage;
 pub use part::take_line;
+pub use parts::PartLines;
+pub use parts::PartParser;
+pub use reader::read;
 pub use rejection::Rejection;
