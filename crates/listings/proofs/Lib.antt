@@ -1,3 +1,4 @@
 pub mod Steps
 pub mod Feeding
 pub mod Outcomes
+pub mod Sums

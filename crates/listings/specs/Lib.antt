@@ -3,3 +3,4 @@ pub mod Parts
 pub mod Runs
 pub mod Readings
 pub mod Texts
+pub mod Rooms

@@ -4,6 +4,7 @@ mod parser;
 mod part;
 mod parts;
 mod reader;
+mod rooms;
 mod rejection;
 
 pub use parser::LineParser;
@@ -14,3 +15,4 @@ pub use parts::PartLines;
 pub use parts::PartParser;
 pub use reader::read;
 pub use rejection::Rejection;
+pub use rooms::room;
