@@ -2,3 +2,4 @@ pub mod Steps
 pub mod Feeding
 pub mod Outcomes
 pub mod Sums
+pub mod Writing

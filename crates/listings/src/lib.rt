@@ -5,6 +5,7 @@ mod part;
 mod parts;
 mod reader;
 mod rooms;
+mod writes;
 mod rejection;
 
 pub use parser::LineParser;
