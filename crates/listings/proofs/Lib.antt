@@ -3,3 +3,4 @@ pub mod Feeding
 pub mod Outcomes
 pub mod Sums
 pub mod Writing
+pub mod Fitting

@@ -4,3 +4,4 @@ pub mod Runs
 pub mod Readings
 pub mod Texts
 pub mod Rooms
+pub mod Blocks

@@ -4,9 +4,10 @@ mod parser;
 mod part;
 mod parts;
 mod reader;
-mod rooms;
-mod writes;
 mod rejection;
+mod rooms;
+mod writer;
+mod writes;
 
 pub use parser::LineParser;
 pub use parser::parse;
@@ -17,3 +18,4 @@ pub use parts::PartParser;
 pub use reader::read;
 pub use rejection::Rejection;
 pub use rooms::room;
+pub use writer::write;

@@ -9,11 +9,18 @@ use crate::forms::sizes_of;
 use systems::Builder;
 use systems::Refusal;
 
+// The lines of names, without their line feeds and with them.
 pub const SIZES_NAMES: &[u8] = b"states actions lamps start";
 
 pub const MOVES_NAMES: &[u8] = b"from action to kind";
 
 pub const LIGHTS_NAMES: &[u8] = b"state lamp light";
+
+pub(crate) const SIZES_LINE: &[u8] = b"states actions lamps start\n";
+
+pub(crate) const MOVES_LINE: &[u8] = b"from action to kind\n";
+
+pub(crate) const LIGHTS_LINE: &[u8] = b"state lamp light\n";
 
 // What the next line of a part is: the names or the values of its sizes, the names of its moves, a
 // move (or the names of its lights), or a light.

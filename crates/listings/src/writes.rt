@@ -47,7 +47,14 @@ fn put_letter(buffer: &mut [u8], at: usize, number: usize, letter: u8) -> usize
 }
 
 // The line of a move whose kind is written as `word`, which ends the line.
-fn put_move_line(buffer: &mut [u8], at: usize, from: usize, letter: u8, to: usize, word: &[u8]) -> usize
+fn put_move_line(
+    buffer: &mut [u8],
+    at: usize,
+    from: usize,
+    letter: u8,
+    to: usize,
+    word: &[u8],
+) -> usize
     requires { ⌜ at + length (decimal from ++ (32 ∷ letter ∷ 32 ∷ (decimal to ++ (32 ∷ now word)))) ≤ length (now buffer) ⌝ }
     ensures { λ r. ⌜ Wrote (now (buffer .entry)) at (decimal from ++ (32 ∷ letter ∷ 32 ∷ (decimal to ++ (32 ∷ now (word .entry))))) (now (buffer .exit)) r ⌝ }
 {
@@ -66,7 +73,14 @@ fn put_light_line(buffer: &mut [u8], at: usize, state: usize, letter: u8, word: 
 }
 
 // The line of a move, or nothing where it is absent.
-pub(crate) fn put_move(buffer: &mut [u8], at: usize, from: usize, action: usize, to: usize, kind: Kind) -> usize
+pub(crate) fn put_move(
+    buffer: &mut [u8],
+    at: usize,
+    from: usize,
+    action: usize,
+    to: usize,
+    kind: Kind,
+) -> usize
     requires letter { ⌜ action < 8 ⌝ }
     requires fits { ⌜ at + length (move-line kind from action to) ≤ length (now buffer) ⌝ }
     ensures { λ r. ⌜ Wrote (now (buffer .entry)) at (move-line kind from action to) (now (buffer .exit)) r ⌝ }
@@ -80,7 +94,13 @@ pub(crate) fn put_move(buffer: &mut [u8], at: usize, from: usize, action: usize,
 }
 
 // The line of a light, or nothing where it is unknown.
-pub(crate) fn put_light(buffer: &mut [u8], at: usize, state: usize, lamp: usize, light: Light) -> usize
+pub(crate) fn put_light(
+    buffer: &mut [u8],
+    at: usize,
+    state: usize,
+    lamp: usize,
+    light: Light,
+) -> usize
     requires letter { ⌜ lamp < 8 ⌝ }
     requires fits { ⌜ at + length (light-line light state lamp) ≤ length (now buffer) ⌝ }
     ensures { λ r. ⌜ Wrote (now (buffer .entry)) at (light-line light state lamp) (now (buffer .exit)) r ⌝ }

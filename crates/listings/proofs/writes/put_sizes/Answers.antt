@@ -27,7 +27,7 @@ returns c =
     let three = c .put-field-at-3 in
     let four = c .put-field in
     let all = then old (three .last .buffer) (four .last .buffer) at (three .result) (four .result) _ (field (z .start) 10) (omega (arith, c .pre))
-      (then old (two .last .buffer) (three .last .buffer) at (two .result) (three .result) _ (field (z .lamps) 32) (omega (arith, c .pre))
-      (then old (one .last .buffer) (two .last .buffer) at (one .result) (two .result) (field (z .states) 32) (field (z .actions) 32) (omega (arith, c .pre)) (one .ensures) (two .ensures)) (three .ensures)) (four .ensures) in
+    (then old (two .last .buffer) (three .last .buffer) at (two .result) (three .result) _ (field (z .lamps) 32) (omega (arith, c .pre))
+    (then old (one .last .buffer) (two .last .buffer) at (one .result) (two .result) (field (z .states) 32) (field (z .actions) 32) (omega (arith, c .pre)) (one .ensures) (two .ensures)) (three .ensures)) (four .ensures) in
     let same : ((field (z .states) 32 ++ field (z .actions) 32) ++ field (z .lamps) 32) ++ field (z .start) 10 ≡ heading (sizes-text z) = simp append-assoc in
     subst (λ t. Wrote old at t (four .last .buffer) (four .result)) same all
