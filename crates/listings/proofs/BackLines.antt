@@ -1,5 +1,5 @@
 -- Texts that lead a reading from one place to another. Assumes nothing.
-use mathlib.Core.Path.{_≡_, refl, sym, ap, _∙_}
+use mathlib.Core.Path.{_≡_, refl, sym, ap, subst₂, _∙_}
 use mathlib.Core.List.{List, [], _∷_, _++_, append-assoc, append-nil}
 use Prim.Native.Nat.{ℕ, zero, suc, _<_, _≤_}
 use native.Mathlib.Omega.{arith}
@@ -26,6 +26,10 @@ pub record Leads (st : Stage) (m : Making) (t : List ℕ) (st′ : Stage) (m′ 
 
 pub leads-none : {st : Stage} {m m′ : Making} → m ≡ m′ → Leads st m [] st m′
 leads-none {st} {m} {m′} same = record { lead = λ n rest. (n, ap (λ (x : Making). reading-from st x n (lines rest)) same) }
+
+-- the same places under other names
+pub leads-as : {st st′ : Stage} {m₀ m m′ m″ : Making} {t : List ℕ} → m₀ ≡ m → m′ ≡ m″ → Leads st m t st′ m′ → Leads st m₀ t st′ m″
+leads-as {st} {st′} {m₀} {m} {m′} {m″} {t} from to leads = subst₂ (λ (x y : Making). Leads st x t st′ y) (sym from) to leads
 
 pub leads-both : {st st′ st″ : Stage} {m m′ m″ : Making} {t u : List ℕ} → Leads st m t st′ m′ → Leads st′ m′ u st″ m″ → Leads st m (t ++ u) st″ m″
 leads-both {st} {st′} {st″} {m} {m′} {m″} {t} {u} first second = record {

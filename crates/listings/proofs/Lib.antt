@@ -3,3 +3,6 @@ pub mod Feeding
 pub mod Outcomes
 pub mod Shown
 pub mod BackLines
+pub mod BackMoves
+pub mod BackLights
+pub mod Back
