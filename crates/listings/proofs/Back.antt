@@ -1,9 +1,7 @@
 -- The text of a frame reads back as the same frame. Assumes nothing.
 use mathlib.Core.Path.{_≡_, refl, ap}
-use mathlib.Core.List.{_++_}
-use Prim.Native.Nat.{ℕ, _<_, _≤_}
+use Prim.Native.Nat.{_<_, _≤_}
 use native.Mathlib.Omega.{arith}
-use lib.Dec.{eqb, leb, ltb}
 use Rattle.std.proofs.shelf.Tests.{ne-eqb, le-ltb, lt-leb}
 use Rattle.std.specs.declared.result.Result.the-variants.{Ok}
 use Rattle.frames.proofs.Copied.{all-copied}
@@ -11,7 +9,7 @@ use Rattle.frames.specs.Copies.{moves-from}
 use Rattle.frames.specs.Drafts.{drafting, first-sizes}
 use Rattle.sets.specs.Sets.{width}
 use Rattle.systems.specs.Edits.{size-answer}
-use Rattle.systems.specs.Making.{Making, sized}
+use Rattle.systems.specs.Making.{Making}
 use Rattle.systems.specs.Meaning.{Meaning, Lawful, states, actions, lamps, blank, move-within}
 use Rattle.systems.specs.declared.kinds.Sizes.{Sizes}
 use Rattle.listings.specs.Forms.{sizes-names, moves-names, lights-names, sizes-text}

@@ -1,7 +1,7 @@
 -- The moves of a system's text, read one after another. Assumes nothing.
-use mathlib.Core.Path.{_≡_, refl, sym, ap, subst, _∙_}
-use mathlib.Core.Bool.{Bool, true, false, cond, not, _&&_, _||_}
-use mathlib.Core.List.{List, [], _∷_, _++_}
+use mathlib.Core.Path.{_≡_, refl, sym, ap, _∙_}
+use mathlib.Core.Bool.{Bool, false, _&&_, _||_}
+use mathlib.Core.List.{[], _∷_, _++_}
 use Prim.Native.Nat.{ℕ, suc, _<_, _≤_}
 use native.Mathlib.Omega.{arith}
 use lib.Dec.{eqb, ltb}
@@ -47,14 +47,16 @@ module _ (X : Meaning) (s a t : ℕ) (few-states : states X ≤ width) (few-acti
       rw (move-not-names e, move-shown e (omega arith) (omega arith) (omega arith), draws)
 
   move-leads : (k : Modality) → Leads Moves (drafting X) (move-text (record { from = s; action = a; to = t; modality = k }) ++ (10 ∷ [])) Moves (drafting (with-move X s a t (drawn k)))
-  move-leads k = leads-line Moves Moves (drafting X) (drafting (with-move X s a t (drawn k))) (move-text (record { from = s; action = a; to = t; modality = k })) (move-no-feed (record { from = s; action = a; to = t; modality = k })) (move-step-goes k)
+  move-leads k =
+      let e : MoveLine = record { from = s; action = a; to = t; modality = k } in
+      leads-line Moves Moves (drafting X) (drafting (with-move X s a t (drawn k))) (move-text e) (move-no-feed e) (move-step-goes k)
 
   -- an absent move has no line, and leaves the system as it is
   no-move : X ≡ with-move X s a t Absent
   no-move =
       sym (ap (with-move X s a t) (sym absent) ∙ one-move X X s a t ∙ own-moves X (λ x b y. eqb x s && eqb b a && eqb y t))
 
-  pub kind-leads : (k : Kind) → Leads Moves (drafting X) (move-line k s a t) Moves (drafting (with-move X s a t k))
+  kind-leads : (k : Kind) → Leads Moves (drafting X) (move-line k s a t) Moves (drafting (with-move X s a t k))
   kind-leads Absent = leads-none (ap drafting no-move)
   kind-leads Optional = move-leads May
   kind-leads Certain = move-leads Must

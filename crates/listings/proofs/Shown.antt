@@ -8,7 +8,6 @@ use lib.Chars.{codes}
 use lib.Dec.{eqb, leb}
 use Rattle.std.proofs.shelf.Tests.{ne-eqb, leb-true, and-left, and-parts}
 use Rattle.std.proofs.shelf.Ways.{tells}
-use Rattle.std.specs.declared.option.Option.{Option}
 use Rattle.std.specs.declared.option.Option.the-variants.{Some}
 use Rattle.std.specs.shelf.Lists.{All}
 use Rattle.std.specs.shelf.Text.{sameBytes}
