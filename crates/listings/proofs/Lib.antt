@@ -4,3 +4,8 @@ pub mod Outcomes
 pub mod Sums
 pub mod Writing
 pub mod Fitting
+pub mod Shown
+pub mod BackLines
+pub mod BackMoves
+pub mod BackLights
+pub mod Back
