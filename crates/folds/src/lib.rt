@@ -1,0 +1,1 @@
+// Folds: a system with its states put together into classes, which is again a system.
