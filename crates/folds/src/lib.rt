@@ -1,1 +1,9 @@
 // Folds: a system with its states put together into classes, which is again a system.
+mod classes;
+mod fold;
+mod joins;
+mod members;
+
+pub use classes::Classes;
+pub use fold::Fold;
+pub use joins::FoldSystem;
