@@ -1,8 +1,8 @@
 -- The fold of a system is exactly its abstraction. Assumes nothing.
 use mathlib.Core.Path.{_≡_, refl, sym, ap, subst, _∙_}
-use mathlib.Core.Bool.{true, false, not, _&&_}
+use mathlib.Core.Bool.{true, not, _&&_}
 use mathlib.Core.List.{List}
-use mathlib.Core.Logic.{inl, inr, ⊎-elim}
+use mathlib.Core.Logic.{⊎-elim}
 use Prim.Native.Nat.{ℕ}
 use Rattle.std.proofs.shelf.Tests.{and-parts, and-from, cond-true, cases-bool, not-from-false}
 use Rattle.systems.specs.Meaning.{Meaning, actions, lamps, blank}

@@ -1,12 +1,12 @@
 -- A fold of a system is a system. Assumes nothing.
 use mathlib.Core.Path.{_≡_, refl, sym, ap, subst, _∙_}
-use mathlib.Core.Bool.{Bool, true, false, _&&_}
+use mathlib.Core.Bool.{true, _&&_}
 use mathlib.Core.List.{List}
 use mathlib.Core.Logic.{⊎-elim}
-use Prim.Native.Nat.{ℕ, _≤_, _<_}
+use Prim.Native.Nat.{ℕ, _<_}
 use native.Mathlib.Omega.{arith}
 use lib.Dec.{ltb}
-use Rattle.std.proofs.shelf.Tests.{false≢true, and-parts, and-from, ltb-true, lt-ltb, cases-bool}
+use Rattle.std.proofs.shelf.Tests.{false≢true, and-parts, and-from, lt-ltb, cases-bool}
 use Rattle.systems.specs.Meaning.{Meaning, Lawful, states, actions, lamps, blank, move-within, light-within}
 use Rattle.systems.specs.Words.{possible, known}
 use Rattle.folds.specs.Folds.{class-of, is-map, fold-meaning, no-sizes}

@@ -2,10 +2,9 @@
 use mathlib.Core.Path.{_≡_, refl, sym, ap, _∙_}
 use mathlib.Core.Bool.{Bool, true, false, _&&_}
 use mathlib.Core.List.{List}
-use mathlib.Core.Logic.{_⊎_, ⊎-elim}
 use Prim.Native.Nat.{ℕ, _≤_, _<_}
 use lib.Dec.{leb, ltb}
-use Rattle.std.proofs.shelf.Tests.{and-parts, and-from, and-left, and-right, leb-true, le-leb, lt-leb, ltb-true, cond-true, cond-false}
+use Rattle.std.proofs.shelf.Tests.{and-parts, and-from, and-left, and-right, leb-true, le-leb, lt-leb, ltb-true, cond-false}
 use Rattle.sets.specs.Sets.{width}
 use Rattle.systems.specs.Meaning.{Meaning, states, blank}
 use Rattle.systems.specs.declared.kinds.Sizes.{Sizes}
@@ -63,17 +62,13 @@ module _ (M : Meaning) (cs : List ℕ) (count : ℕ) where
   pub map-refused : (fits : Bool) → fits ≡ are-classes cs count → fits ≡ false → fits ≡ is-map M cs count
   map-refused fits tested h = h ∙ sym (and-left (are-classes cs count) (leb 1 (states M)) (sym tested ∙ h)) ∙ sym map-parts
 
-  pub folded-sizes : (fits : Bool) (z : Sizes) (start : ℕ) → z ≡ M .sizes → start ≡ class-of cs (z .start) → fits ≡ are-classes cs count → fits ≡ true → 1 ≤ z .states → record { states = count; actions = z .actions; lamps = z .lamps; start = start } ≡ fold-meaning M cs count .sizes
-  folded-sizes fits z start is at tested h some =
-      let mapped : is-map M cs count ≡ true = sym (map-tested fits (z .states) tested (ap (λ (y : Sizes). y .states) is) h) ∙ le-leb 1 (z .states) some in
+  pub folded-sizes : (z : Sizes) (start : ℕ) → z ≡ M .sizes → start ≡ class-of cs (z .start) → is-map M cs count ≡ true → record { states = count; actions = z .actions; lamps = z .lamps; start = start } ≡ fold-meaning M cs count .sizes
+  folded-sizes z start is at e =
       let sized : Sizes → Sizes = λ y. record { states = count; actions = y .actions; lamps = y .lamps; start = class-of cs (y .start) } in
-      ap (λ s. record { states = count; actions = z .actions; lamps = z .lamps; start = s }) at ∙ ap sized is ∙ ap (λ F. F .sizes) (sym (fold-is M cs count mapped))
+      ap (λ s. record { states = count; actions = z .actions; lamps = z .lamps; start = s }) at ∙ ap sized is ∙ ap (λ F. F .sizes) (sym (fold-is M cs count e))
 
   pub no-fold : is-map M cs count ≡ false → fold-meaning M cs count ≡ blank no-sizes
   no-fold = cond-false (is-map M cs count) (folded M cs count) (blank no-sizes)
 
   pub unfolded-sizes : is-map M cs count ≡ false → no-sizes ≡ fold-meaning M cs count .sizes
-  unfolded-sizes h = ap (λ F. F .sizes) (sym (no-fold h))
-
-  pub without-states : (fits : Bool) (n : ℕ) → fits ≡ are-classes cs count → n ≡ states M → fits ≡ true → n < 1 → is-map M cs count ≡ false
-  without-states fits n tested is h none = sym (map-tested fits n tested is h) ∙ lt-leb 1 n none
+  unfolded-sizes e = ap (λ F. F .sizes) (sym (no-fold e))

@@ -1,22 +1,19 @@
 -- A system refines its abstraction, by any relation that joins each state to just its class. Assumes nothing.
-use mathlib.Core.Path.{_≡_, refl, sym, ap, _∙_}
+use mathlib.Core.Path.{_≡_, refl, sym, _∙_}
 use mathlib.Core.Bool.{Bool, true}
 use mathlib.Core.List.{List}
 use mathlib.Core.Logic.{⊎-elim}
-use Prim.Native.Nat.{ℕ, _≤_, _<_}
+use Prim.Native.Nat.{ℕ, _<_}
 use native.Mathlib.Omega.{arith}
 use lib.Dec.{eqb}
-use lib.ListN.{length, getD}
 use Rattle.std.proofs.shelf.Tests.{eqb-true, eq-eqb}
-use Rattle.sets.specs.Sets.{Set, has}
-use Rattle.systems.specs.Meaning.{Meaning, Lawful, states, actions, lamps}
+use Rattle.systems.specs.Meaning.{Meaning, Lawful, states}
 use Rattle.systems.specs.Refinement.{Joined, Answered-certain, Answered-possible, Refines}
 use Rattle.systems.specs.Words.{possible, certain, known}
 use Rattle.folds.specs.Folds.{class-of, is-map, fold-meaning}
-use Rattle.folds.specs.Joins.{Rows-of}
 use Rattle.folds.specs.Readings.{Member, Abstraction, Refined-by-class}
 use Rattle.folds.proofs.Abstracted.{exact}
-use Rattle.folds.proofs.Mapped.{Mapping, mapping}
+use Rattle.folds.proofs.Mapped.{mapping}
 use Rattle.folds.proofs.Words.{known-of}
 
 module _ (M : Meaning) (cs : List ℕ) (count : ℕ) (F : Meaning) (is : Abstraction M cs count F) (below : (s : ℕ) → s < states M → class-of cs s < count) (R : ℕ → ℕ → Bool) (joins : (c a : ℕ) → c < states M → R c a ≡ eqb (class-of cs c) a) where

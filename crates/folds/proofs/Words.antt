@@ -1,6 +1,6 @@
 -- What the words of a system say of what is chosen by tests. Assumes nothing.
 use mathlib.Core.Path.{_≡_, refl, sym, ap, _∙_}
-use mathlib.Core.Bool.{Bool, true, false, cond, not, _&&_, _||_}
+use mathlib.Core.Bool.{Bool, true, false, cond, not, _&&_}
 use mathlib.Core.Logic.{_⊎_, inl, inr}
 use Rattle.std.proofs.shelf.Tests.{false≢true}
 use Rattle.systems.specs.Words.{possible, certain, known, is-on, is-off}

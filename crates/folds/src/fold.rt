@@ -1,11 +1,10 @@
 // A system with its states put together into classes.
 ghost use mathlib.Core.Path.{_≡_};
-ghost use mathlib.Core.Bool.{Bool};
 ghost use Rattle.folds.specs.Maps.{are-classes};
 use crate::classes::Classes;
 
-// Where `count` is no count of classes, or a class is not below it, the fold has no states, and so
-// it is over a system of no states.
+// The fold has no states where `count` is not from 1 to 64, where some class is not below it, or
+// where the system has none.
 #[derive(Drop)]
 pub struct Fold<S> {
     pub(crate) system: S,
@@ -17,6 +16,7 @@ pub struct Fold<S> {
 }
 
 impl<S> Fold<S> {
+    // It takes any classes and any count.
     pub fn new(system: S, classes: Classes, count: usize) -> Fold<S>
         ensures system { λ r. ⌜ r .system ≡ system ⌝ }
         ensures classes { λ r. ⌜ r .classes ≡ classes ⌝ }

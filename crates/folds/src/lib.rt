@@ -3,7 +3,8 @@ mod classes;
 mod fold;
 mod joins;
 mod members;
+mod questions;
 
 pub use classes::Classes;
 pub use fold::Fold;
-pub use joins::FoldSystem;
+pub use questions::FoldSystem;

@@ -1,7 +1,6 @@
-// Questions to the members of a class, each asked once.
+// Questions to the members of a class: each move, and each lamp, is asked for once. The system has
+// `states` states.
 ghost use mathlib.Core.Path.{_≡_};
-ghost use Prim.Native.Nat.{_≤_};
-ghost use Rattle.systems.specs.Meaning.{states};
 ghost use Rattle.systems.specs.Words.{possible, certain};
 ghost use Rattle.folds.specs.Folds.{enters, fold-kind, fold-light};
 use crate::classes::Classes;
@@ -41,16 +40,19 @@ fn entering<S: System>(
     Entries { may, must }
 }
 
+// The move between two classes: possible where some member has one, certain where every member has
+// a certain one.
 pub(crate) fn kind_between<S: System>(
     system: &S,
     classes: &Classes,
+    states: usize,
     from: usize,
     action: usize,
     to: usize,
 ) -> Kind
+    requires { ⌜ states ≡ meaning (now system) .sizes .states ⌝ }
     ensures { λ r. ⌜ r ≡ fold-kind (meaning (now (system .entry))) (now (classes .entry) .of) from action to ⌝ }
 {
-    let states = system.sizes().states;
     let mut some = false;
     let mut every = true;
     for state in 0..states {
@@ -69,22 +71,29 @@ pub(crate) fn kind_between<S: System>(
     }
 }
 
-pub(crate) fn light_of<S: System>(system: &S, classes: &Classes, class: usize, lamp: usize) -> Light
+// What all members of a class show alike, where there are members.
+pub(crate) fn light_of<S: System>(
+    system: &S,
+    classes: &Classes,
+    states: usize,
+    class: usize,
+    lamp: usize,
+) -> Light
+    requires { ⌜ states ≡ meaning (now system) .sizes .states ⌝ }
     ensures { λ r. ⌜ r ≡ fold-light (meaning (now (system .entry))) (now (classes .entry) .of) class lamp ⌝ }
 {
-    let states = system.sizes().states;
-    let mut some = false;
+    let mut members = false;
     let mut on = true;
     let mut off = true;
     for state in 0..states {
         if classes.class_of(state) == class {
             let light = system.light(state, lamp);
-            some = true;
+            members = true;
             on &= light.is_on();
             off &= light.is_off();
         }
     }
-    if !some {
+    if !members {
         Light::Unknown
     } else if on {
         Light::On

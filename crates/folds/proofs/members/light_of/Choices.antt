@@ -8,4 +8,4 @@ abbrev pub Inv-loop-state : given.InvT-loop-state
 Inv-loop-state g l =
     let M = g .S·System .meaning (l .system) in
     let cs = l .classes .of in
-    (l .some ≡ some-so-far M cs (l .class) (l .state) (λ s. true)) × (l .on ≡ every-so-far M cs (l .class) (l .state) (λ s. is-on (M .light s (l .lamp)))) × (l .off ≡ every-so-far M cs (l .class) (l .state) (λ s. is-off (M .light s (l .lamp))))
+    (l .members ≡ some-so-far M cs (l .class) (l .state) (λ s. true)) × (l .on ≡ every-so-far M cs (l .class) (l .state) (λ s. is-on (M .light s (l .lamp)))) × (l .off ≡ every-so-far M cs (l .class) (l .state) (λ s. is-off (M .light s (l .lamp))))

@@ -1,23 +1,32 @@
 use mathlib.Core.Path.{_≡_, refl, sym, ap, _∙_}
-use mathlib.Core.Bool.{true}
 use native.Mathlib.Omega.{arith}
 use lib.ListN.{length}
 use Rattle.systems.specs.Meaning.{states}
 use Rattle.systems.specs.declared.kinds.Sizes.{Sizes}
-use Rattle.systems.specs.declared.refusal.Refusal.the-variants.{Rows}
-use Rattle.folds.specs.Folds.{is-map}
-use Rattle.folds.proofs.Joined.{wrong-rows, joins, faithful-refused, faithful-joined, class-held}
+use Rattle.systems.specs.declared.refusal.Refusal.the-variants.{Mismatch, Rows}
+use Rattle.folds.proofs.Joined.{mismatched, wrong-rows, joins, faithful-refused, faithful-joined, class-held}
 use Rattle.folds.proofs.fold.Fold.join.Needs as need
 
-pub returns-then-rows-sizes : need.returns-then-rows-sizes
-returns-then-rows-sizes g c =
+pub returns-then-not-is-map : need.returns-then-not-is-map
+returns-then-not-is-map g c =
+    let f = c .args .self .now in
+    let M = g .S·System .meaning (f .system) in
+    let cs = f .classes .of in
+    record {
+      answer = mismatched M cs (f .count) (length (c .args .rows .now)) (sym (c .if-not-is-map .ensures tt));
+      rows = refl;
+      faithful = faithful-refused M cs (f .count) (g .S·System·met .lawful (f .system)) Mismatch (c .args .rows .now);
+    }
+
+pub returns-then-rows-states : need.returns-then-rows-states
+returns-then-rows-states g c =
     let f = c .args .self .now in
     let M = g .S·System .meaning (f .system) in
     let cs = f .classes .of in
     let mapped = sym (c .if-not-is-map .ensures tt) in
-    let sized = ap (λ (z : Sizes). z .states) (c .sizes .ensures) in
+    let sized = ap (λ (z : Sizes). z .states) (c .sizes-states .ensures) in
     record {
-      answer = wrong-rows M cs (f .count) (length (c .args .rows .now)) mapped (λ e. c .if-rows-sizes .taken (e ∙ sym sized));
+      answer = wrong-rows M cs (f .count) (length (c .args .rows .now)) mapped (λ e. c .if-rows-states .taken (e ∙ sym sized));
       rows = refl;
       faithful = faithful-refused M cs (f .count) (g .S·System·met .lawful (f .system)) Rows (c .args .rows .now);
     }
@@ -28,7 +37,7 @@ fill-requires g c κs =
     let M = g .S·System .meaning (f .system) in
     let cs = f .classes .of in
     let mapped = sym (c .if-not-is-map .ensures tt) in
-    let long : length (c .args .rows .now) ≡ states M = c .if-rows-sizes .left ∙ ap (λ (z : Sizes). z .states) (c .sizes .ensures) in
+    let long : length (c .args .rows .now) ≡ states M = c .if-rows-states .left ∙ ap (λ (z : Sizes). z .states) (c .sizes-states .ensures) in
     λ s h. class-held M cs (f .count) (g .S·System·met .lawful (f .system)) mapped s (omega arith)
 
 pub returns : need.returns
@@ -37,7 +46,7 @@ returns g c =
     let M = g .S·System .meaning (f .system) in
     let cs = f .classes .of in
     let mapped = sym (c .if-not-is-map .ensures tt) in
-    let long : length (c .args .rows .now) ≡ states M = c .if-rows-sizes .left ∙ ap (λ (z : Sizes). z .states) (c .sizes .ensures) in
+    let long : length (c .args .rows .now) ≡ states M = c .if-rows-states .left ∙ ap (λ (z : Sizes). z .states) (c .sizes-states .ensures) in
     record {
       answer = joins M cs (f .count) (length (c .args .rows .now)) mapped long;
       rows = c .fill .ensures;
