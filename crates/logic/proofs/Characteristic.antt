@@ -18,7 +18,7 @@ use Rattle.calculus.specs.declared.syntax.Binary.the-variants.{And, Or}
 use Rattle.calculus.specs.Formula.{Formula, leaf, prefix, binary, closed, within-letters}
 use Rattle.calculus.specs.Marks.{nothing}
 use Rattle.logic.specs.Theorems.{Question}
-use Rattle.logic.proofs.Bounded.{any-same, all-same}
+use Rattle.systems.proofs.Bounded.{any-same, all-same}
 use Rattle.logic.proofs.Denotation.{pair-at}
 use Rattle.logic.proofs.Ladder.{agrees, lights-agree, certain-answer, possible-answer, certain-answered, possible-answered, ladder}
 

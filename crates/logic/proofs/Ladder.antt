@@ -13,7 +13,7 @@ use Rattle.systems.specs.Refinement.{Joined, Answered-certain, Answered-possibl
 use Rattle.systems.specs.Words.{possible, certain, known, is-on, is-off}
 use Rattle.systems.specs.declared.kinds.Light.{Light}
 use Rattle.systems.specs.declared.kinds.Light.the-variants.{Unknown, On, Off}
-use Rattle.logic.proofs.Bounded.{any-from, any-to, all-from, all-to}
+use Rattle.systems.proofs.Bounded.{any-from, any-to, all-from, all-to}
 use Rattle.logic.proofs.Counting.{total, total-grows, total-within, settles, bit, bit-falls, bit-within}
 use Rattle.logic.proofs.Truth.{tests-same, guarded-from, guarded-to}
 

@@ -1,4 +1,3 @@
-pub mod Bounded
 pub mod Characterised
 pub mod Characteristic
 pub mod Consistent

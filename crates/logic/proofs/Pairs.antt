@@ -7,7 +7,7 @@ use Rattle.systems.specs.Words.{possible, certain}
 use Rattle.calculus.specs.declared.syntax.Binary.{Binary}
 use Rattle.calculus.specs.declared.syntax.Binary.the-variants.{And, Or}
 use Rattle.calculus.specs.Pairs.{Pair, Same, Within, not-pair, binary-pair, diamond-pair, box-pair}
-use Rattle.logic.proofs.Bounded.{any-same, all-same}
+use Rattle.systems.proofs.Bounded.{any-same, all-same}
 use Rattle.logic.proofs.Truth.{tests-same}
 
 pub same-refl : (n : ℕ) (p : Pair) → Same n p p

@@ -15,7 +15,7 @@ use Rattle.calculus.specs.declared.syntax.Binary.{Binary}
 use Rattle.calculus.specs.declared.syntax.Binary.the-variants.{And, Or}
 use Rattle.calculus.specs.Pairs.{Pair, leaf-pair, not-pair, binary-pair, diamond-pair, box-pair}
 use Rattle.calculus.specs.Marks.{nothing}
-use Rattle.logic.proofs.Bounded.{any-from, any-to, all-from, all-to}
+use Rattle.systems.proofs.Bounded.{any-from, any-to, all-from, all-to}
 use Rattle.logic.proofs.Denotation.{none, every}
 use Rattle.logic.proofs.Links.{Signs, Linked}
 use Rattle.logic.proofs.Truth.{guarded-from, guarded-to, not-so}

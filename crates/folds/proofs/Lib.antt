@@ -1,0 +1,9 @@
+pub mod Words
+pub mod Quantified
+pub mod Turns
+pub mod Abstracted
+pub mod Mapped
+pub mod Kept
+pub mod Refined
+pub mod Rows
+pub mod Joined

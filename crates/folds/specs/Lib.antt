@@ -1,0 +1,4 @@
+pub mod Folds
+pub mod Readings
+pub mod Maps
+pub mod Joins
