@@ -56,6 +56,6 @@ frame-leads M framed =
     (leads-both (lights-named (drafting B))
     (lights-lead M B refl (λ s l. refl) (framed .few-states) (lawful .few-lamps)))))))
 
-pub reads-back : Reads-back
+pub reads-back : (M : Meaning) → Framed M → Reads-back M
 reads-back M framed short =
     leads-reads (drafting (blank first-sizes)) (drafting M) (frame-text M) short (frame-leads M framed)

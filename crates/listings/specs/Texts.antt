@@ -53,5 +53,5 @@ pub record Framed (M : Meaning) : Type 0 where
   pub few-states : states M ≤ width
 
 -- The text of a frame, where it is no longer than a paper may be, reads back as the same frame.
-abbrev pub Reads-back : Type 0
-Reads-back = (M : Meaning) → Framed M → length (frame-text M) ≤ longest-paper → reading (drafting (blank first-sizes)) (frame-text M) ≡ Ok (drafting M)
+abbrev pub Reads-back : Meaning → Type 0
+Reads-back M = length (frame-text M) ≤ longest-paper → reading (drafting (blank first-sizes)) (frame-text M) ≡ Ok (drafting M)

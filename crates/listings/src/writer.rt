@@ -5,7 +5,7 @@ ghost use lib.ListN.{length};
 ghost use Rattle.frames.specs.Frames.{meaning-of, draft-meaning};
 ghost use Rattle.listings.specs.Blocks.{moves-on-text, moves-of-text, lights-of-text};
 ghost use Rattle.listings.specs.Rooms.{Wrote, write-answer, write-after};
-ghost use Rattle.listings.specs.Texts.{moves-text, lights-text, frame-text};
+ghost use Rattle.listings.specs.Texts.{moves-text, lights-text, frame-text, Reads-back};
 use crate::part::LIGHTS_LINE;
 use crate::part::MOVES_LINE;
 use crate::part::SIZES_LINE;
@@ -21,10 +21,12 @@ use systems::Refusal;
 use systems::System;
 
 // Writes the frame's text at the start of `buffer` and answers its length. A buffer shorter than the
-// room is refused and left as it is; bytes after the text stay.
+// room is refused and left as it is; bytes after the text stay. Where the text is no longer than a
+// paper may be, it reads back as the same frame.
 pub fn write(draft: &Draft, buffer: &mut [u8]) -> Result<usize, Refusal>
     ensures answer { λ r. ⌜ r ≡ write-answer (draft-meaning (now (draft .entry))) (now (buffer .entry)) ⌝ }
     ensures after { λ _. ⌜ now (buffer .exit) ≡ write-after (draft-meaning (now (draft .entry))) (now (buffer .entry)) ⌝ }
+    ensures back { λ _. ⌜ Reads-back (draft-meaning (now (draft .entry))) ⌝ }
 {
     if buffer.len() < room(draft) {
         return Err(Refusal::Full);

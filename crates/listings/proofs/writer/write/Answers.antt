@@ -13,6 +13,7 @@ use Rattle.frames.specs.declared.frame.Frame.{Frame}
 use Rattle.listings.specs.Rooms.{Wrote, room-of, write-answer, write-after}
 use Rattle.listings.specs.Texts.{frame-text, Framed}
 use Rattle.text.specs.Bytes.{put}
+use Rattle.listings.proofs.Back.{reads-back}
 use Rattle.listings.proofs.Fitting.{text-fits}
 use Rattle.listings.proofs.writer.write.Needs as need
 
@@ -34,6 +35,7 @@ returns c =
     record {
       answer = ap Ok (wrote .place ∙ omega arith) ∙ sym (cond-false (ltb (length old) (room-of M)) (Err Full) (Ok (length (frame-text M))) short);
       after = wrote .after ∙ sym (cond-false (ltb (length old) (room-of M)) old (put old 0 (frame-text M)) short);
+      back = reads-back M (framed (c .args .draft .now .frame));
     }
 
 pub returns-then-buffer-room : need.returns-then-buffer-room
@@ -44,4 +46,5 @@ returns-then-buffer-room c =
     record {
       answer = sym (cond-true (ltb (length old) (room-of M)) (Err Full) (Ok (length (frame-text M))) short);
       after = sym (cond-true (ltb (length old) (room-of M)) old (put old 0 (frame-text M)) short);
+      back = reads-back M (framed (c .args .draft .now .frame));
     }
