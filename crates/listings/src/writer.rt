@@ -3,6 +3,7 @@ ghost use mathlib.Core.Path.{_≡_};
 ghost use Prim.Native.Nat.{_+_, _≤_, _<_};
 ghost use lib.ListN.{length};
 ghost use Rattle.frames.specs.Frames.{meaning-of, draft-meaning};
+ghost use Rattle.std.specs.Vec.{made};
 ghost use Rattle.listings.specs.Blocks.{moves-on-text, moves-of-text, lights-of-text};
 ghost use Rattle.listings.specs.Rooms.{Wrote, write-answer, write-after};
 ghost use Rattle.listings.specs.Texts.{moves-text, lights-text, frame-text, Reads-back};
@@ -26,6 +27,7 @@ use systems::System;
 pub fn write(draft: &Draft, buffer: &mut [u8]) -> Result<usize, Refusal>
     ensures answer { λ r. ⌜ r ≡ write-answer (draft-meaning (now (draft .entry))) (now (buffer .entry)) ⌝ }
     ensures after { λ _. ⌜ now (buffer .exit) ≡ write-after (draft-meaning (now (draft .entry))) (now (buffer .entry)) ⌝ }
+    ensures within { λ r. ⌜ made r (λ n. n ≤ length (now (buffer .entry))) ⌝ }
     ensures back { λ _. ⌜ Reads-back (draft-meaning (now (draft .entry))) ⌝ }
 {
     if buffer.len() < room(draft) {

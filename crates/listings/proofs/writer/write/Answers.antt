@@ -35,6 +35,7 @@ returns c =
     record {
       answer = ap Ok (wrote .place ∙ omega arith) ∙ sym (cond-false (ltb (length old) (room-of M)) (Err Full) (Ok (length (frame-text M))) short);
       after = wrote .after ∙ sym (cond-false (ltb (length old) (room-of M)) old (put old 0 (frame-text M)) short);
+      within = omega (arith, wrote .place, text-fits M (framed (c .args .draft .now .frame)), c .room .ensures);
       back = reads-back M (framed (c .args .draft .now .frame));
     }
 
@@ -46,5 +47,6 @@ returns-then-buffer-room c =
     record {
       answer = sym (cond-true (ltb (length old) (room-of M)) (Err Full) (Ok (length (frame-text M))) short);
       after = sym (cond-true (ltb (length old) (room-of M)) old (put old 0 (frame-text M)) short);
+      within = tt;
       back = reads-back M (framed (c .args .draft .now .frame));
     }
