@@ -1,0 +1,5 @@
+// Tables: systems of up to 256 states, written into lists of moves and lights that their owner lends.
+mod entries;
+
+pub use entries::LightEntry;
+pub use entries::MoveEntry;
