@@ -16,7 +16,13 @@ pub impl Builder for Draft as DraftBuilder {
         Draft::size(self, sizes)
     }
 
-    fn draw(&mut self, from: usize, action: usize, to: usize, modality: Modality) -> Result<(), Refusal> {
+    fn draw(
+        &mut self,
+        from: usize,
+        action: usize,
+        to: usize,
+        modality: Modality,
+    ) -> Result<(), Refusal> {
         Draft::draw(self, from, action, to, modality)
     }
 

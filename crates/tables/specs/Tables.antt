@@ -1,0 +1,13 @@
+-- What a table means, and what is made in it. Assumes nothing.
+use denote.Ref.{now}
+use Rattle.systems.specs.Making.{Making}
+use Rattle.systems.specs.declared.kinds.Sizes.{Sizes}
+use Rattle.tables.specs.Entries.{table-making}
+use Rattle.tables.specs.declared.table.Table.{Table}
+
+-- one state, which is the start, no actions and no lamps
+abbrev pub first-sizes : Sizes
+first-sizes = record { states = 1; actions = 0; lamps = 0; start = 0 }
+
+abbrev pub making-of : Table → Making
+making-of t = table-making (t .header .sizes) (now (t .moves)) (t .header .drawn) (now (t .lights)) (t .header .lit)
