@@ -1,25 +1,28 @@
 // A table: a system that is being written into lists of moves and lights that their owner lends.
 // Its calls test what they are given and answer the first refusal that applies, and a refused call
-// changes nothing.
+// changes nothing. Each says which place of the lists it changed, so that the owner knows what they
+// hold when they come back.
 ghost use mathlib.Core.Path.{_≡_};
 ghost use lib.ListN.{set};
-ghost use denote.Ref.{name};
+ghost use denote.Ref.{name, now as now-of};
 ghost use Rattle.systems.specs.Edits.{after};
-ghost use Rattle.systems.specs.Making.{sized, sized-answer, moved, moved-answer, lit as with-lit, lit-answer};
-ghost use Rattle.systems.specs.Words.{drawn as kind-drawn, shown};
-ghost use Rattle.tables.specs.Entries.{table-making};
-ghost use Rattle.tables.specs.Tables.{making-of, first-sizes};
+ghost use Rattle.systems.specs.Making.{sized, sized-answer, moved, moved-answer, is-full, lit as lit-up, lit-answer};
+ghost use Rattle.systems.specs.Words.{drawn as drawn-as, shown};
+ghost use Rattle.tables.specs.Entries.{table-meaning, table-making};
+ghost use Rattle.tables.specs.Tables.{making-of, first-sizes, move-entry, light-entry};
 use crate::entries::LightEntry;
 use crate::entries::MoveEntry;
 use crate::header::Header;
-use crate::header::MOST_ENTRIES;
-use crate::lookup::first_kind;
-use crate::lookup::first_light;
-use crate::lookup::used;
+use crate::lookup::kind_in;
+use crate::lookup::light_in;
+use crate::lookup::room;
+use systems::Kind;
+use systems::Light;
 use systems::Modality;
 use systems::Refusal;
 use systems::Setting;
 use systems::Sizes;
+use systems::System;
 
 #[derive(Drop)]
 pub struct Table<'a> {
@@ -34,7 +37,8 @@ impl<'a> Table<'a> {
         ensures making { λ r. ⌜ making-of r ≡ table-making first-sizes (now (moves .entry)) 0 (now (lights .entry)) 0 ⌝ }
         ensures moves { λ r. ⌜ now (r .moves) ≡ now (moves .entry) ⌝ }
         ensures lights { λ r. ⌜ now (r .lights) ≡ now (lights .entry) ⌝ }
-        ensures names { λ r. ⌜ name (r .moves) ≡ name (moves .entry) ⌝ }
+        ensures lent_moves { λ r. ⌜ name (r .moves) ≡ name (moves .entry) ⌝ }
+        ensures lent_lights { λ r. ⌜ name (r .lights) ≡ name (lights .entry) ⌝ }
     {
         let sizes = Sizes {
             states: 1,
@@ -59,8 +63,8 @@ impl<'a> Table<'a> {
         ensures after { λ r. ⌜ making-of (now (self .exit)) ≡ after r (sized (making-of (now (self .entry))) sizes) (making-of (now (self .entry))) ⌝ }
         ensures moves { λ _. ⌜ now (now (self .exit) .moves) ≡ now (now (self .entry) .moves) ⌝ }
         ensures lights { λ _. ⌜ now (now (self .exit) .lights) ≡ now (now (self .entry) .lights) ⌝ }
-        ensures same_moves { λ _. ⌜ name (now (self .exit) .moves) ≡ name (now (self .entry) .moves) ⌝ }
-        ensures same_lights { λ _. ⌜ name (now (self .exit) .lights) ≡ name (now (self .entry) .lights) ⌝ }
+        ensures lent_moves { λ _. ⌜ name (now (self .exit) .moves) ≡ name (now (self .entry) .moves) ⌝ }
+        ensures lent_lights { λ _. ⌜ name (now (self .exit) .lights) ≡ name (now (self .entry) .lights) ⌝ }
     {
         if sizes.states == 0 || sizes.states > 256 {
             return Err(Refusal::States);
@@ -77,5 +81,104 @@ impl<'a> Table<'a> {
             lit: 0,
         };
         Ok(())
+    }
+
+    // Adds a move that is not there yet.
+    pub fn draw(
+        &mut self,
+        from: usize,
+        action: usize,
+        to: usize,
+        modality: Modality,
+    ) -> Result<(), Refusal>
+        ensures answer { λ r. ⌜ r ≡ moved-answer (making-of (now (self .entry))) from action to ⌝ }
+        ensures after { λ r. ⌜ making-of (now (self .exit)) ≡ after r (moved (making-of (now (self .entry))) from action to (drawn-as modality)) (making-of (now (self .entry))) ⌝ }
+        ensures moves { λ r. ⌜ now (now (self .exit) .moves) ≡ after r (set (now (now (self .entry) .moves)) (now (self .entry) .header .drawn) (move-entry from action to modality)) (now (now (self .entry) .moves)) ⌝ }
+        ensures lights { λ _. ⌜ now (now (self .exit) .lights) ≡ now (now (self .entry) .lights) ⌝ }
+        ensures lent_moves { λ _. ⌜ name (now (self .exit) .moves) ≡ name (now (self .entry) .moves) ⌝ }
+        ensures lent_lights { λ _. ⌜ name (now (self .exit) .lights) ≡ name (now (self .entry) .lights) ⌝ }
+    {
+        let sizes = self.header.sizes;
+        let drawn = self.header.drawn;
+        if from >= sizes.states || to >= sizes.states {
+            return Err(Refusal::NoState);
+        }
+        if action >= sizes.actions {
+            return Err(Refusal::NoLetter);
+        }
+        if System::kind(self, from, action, to).is_possible() {
+            return Err(Refusal::Repeated);
+        }
+        if self.is_full_of_moves() {
+            return Err(Refusal::Full);
+        }
+        self.moves[drawn] = MoveEntry {
+            from,
+            action,
+            to,
+            modality,
+        };
+        self.header.drawn = drawn + 1;
+        Ok(())
+    }
+
+    fn is_full_of_moves(&self) -> bool
+        ensures { λ r. ⌜ r ≡ is-full (making-of (now (self .entry)) .places .moves) ⌝ }
+    {
+        self.header.drawn >= room(self.moves)
+    }
+
+    // Turns an unknown lamp of a state on or off.
+    pub fn light(&mut self, state: usize, lamp: usize, setting: Setting) -> Result<(), Refusal>
+        ensures answer { λ r. ⌜ r ≡ lit-answer (making-of (now (self .entry))) state lamp ⌝ }
+        ensures after { λ r. ⌜ making-of (now (self .exit)) ≡ after r (lit-up (making-of (now (self .entry))) state lamp (shown setting)) (making-of (now (self .entry))) ⌝ }
+        ensures moves { λ _. ⌜ now (now (self .exit) .moves) ≡ now (now (self .entry) .moves) ⌝ }
+        ensures lights { λ r. ⌜ now (now (self .exit) .lights) ≡ after r (set (now (now (self .entry) .lights)) (now (self .entry) .header .lit) (light-entry state lamp setting)) (now (now (self .entry) .lights)) ⌝ }
+        ensures lent_moves { λ _. ⌜ name (now (self .exit) .moves) ≡ name (now (self .entry) .moves) ⌝ }
+        ensures lent_lights { λ _. ⌜ name (now (self .exit) .lights) ≡ name (now (self .entry) .lights) ⌝ }
+    {
+        let sizes = self.header.sizes;
+        let lit = self.header.lit;
+        if state >= sizes.states {
+            return Err(Refusal::NoState);
+        }
+        if lamp >= sizes.lamps {
+            return Err(Refusal::NoLetter);
+        }
+        if System::light(self, state, lamp).is_known() {
+            return Err(Refusal::Repeated);
+        }
+        if self.is_full_of_lights() {
+            return Err(Refusal::Full);
+        }
+        self.lights[lit] = LightEntry {
+            state,
+            lamp,
+            setting,
+        };
+        self.header.lit = lit + 1;
+        Ok(())
+    }
+
+    fn is_full_of_lights(&self) -> bool
+        ensures { λ r. ⌜ r ≡ is-full (making-of (now (self .entry)) .places .lights) ⌝ }
+    {
+        self.header.lit >= room(self.lights)
+    }
+}
+
+pub impl System for Table<'_> as TableSystem {
+    ghost meaning = { λ t. table-meaning (t .header .sizes) (now-of (t .moves)) (t .header .drawn) (now-of (t .lights)) (t .header .lit) };
+
+    fn sizes(&self) -> Sizes {
+        self.header.sizes
+    }
+
+    fn kind(&self, from: usize, action: usize, to: usize) -> Kind {
+        kind_in(self.header, self.moves, from, action, to)
+    }
+
+    fn light(&self, state: usize, lamp: usize) -> Light {
+        light_in(self.header, self.lights, state, lamp)
     }
 }
