@@ -1,10 +1,10 @@
 // Tables: systems of up to 256 states, written into lists of moves and lights that their owner lends.
 mod builds;
 mod entries;
-mod finish;
 mod header;
 mod listed;
 mod lookup;
+mod reading;
 mod table;
 
 pub use builds::TableBuilder;
@@ -13,4 +13,3 @@ pub use entries::MoveEntry;
 pub use listed::Listed;
 pub use listed::ListedSystem;
 pub use table::Table;
-pub use table::TableSystem;

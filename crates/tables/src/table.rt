@@ -4,11 +4,11 @@
 // hold when they come back.
 ghost use mathlib.Core.Path.{_≡_};
 ghost use lib.ListN.{set};
-ghost use denote.Ref.{name, now as now-of};
+ghost use denote.Ref.{name};
 ghost use Rattle.systems.specs.Edits.{after};
 ghost use Rattle.systems.specs.Making.{sized, sized-answer, moved, moved-answer, is-full, lit as lit-up, lit-answer};
 ghost use Rattle.systems.specs.Words.{drawn as drawn-as, shown};
-ghost use Rattle.tables.specs.Entries.{table-meaning, table-making};
+ghost use Rattle.tables.specs.Entries.{table-making};
 ghost use Rattle.tables.specs.Tables.{making-of, first-sizes, move-entry, light-entry};
 use crate::entries::LightEntry;
 use crate::entries::MoveEntry;
@@ -106,7 +106,7 @@ impl<'a> Table<'a> {
         if action >= sizes.actions {
             return Err(Refusal::NoLetter);
         }
-        if System::kind(self, from, action, to).is_possible() {
+        if self.kind_so_far(from, action, to).is_possible() {
             return Err(Refusal::Repeated);
         }
         if self.is_full_of_moves() {
@@ -120,12 +120,6 @@ impl<'a> Table<'a> {
         };
         self.header.drawn = drawn + 1;
         Ok(())
-    }
-
-    fn is_full_of_moves(&self) -> bool
-        ensures { λ r. ⌜ r ≡ is-full (making-of (now (self .entry)) .places .moves) ⌝ }
-    {
-        self.header.drawn >= room(self.moves)
     }
 
     // Turns an unknown lamp of a state on or off.
@@ -145,7 +139,7 @@ impl<'a> Table<'a> {
         if lamp >= sizes.lamps {
             return Err(Refusal::NoLetter);
         }
-        if System::light(self, state, lamp).is_known() {
+        if self.light_so_far(state, lamp).is_known() {
             return Err(Refusal::Repeated);
         }
         if self.is_full_of_lights() {
@@ -160,25 +154,27 @@ impl<'a> Table<'a> {
         Ok(())
     }
 
+    fn kind_so_far(&self, from: usize, action: usize, to: usize) -> Kind
+        ensures { λ r. ⌜ r ≡ making-of (now (self .entry)) .system .kind from action to ⌝ }
+    {
+        kind_in(self.header, self.moves, from, action, to)
+    }
+
+    fn light_so_far(&self, state: usize, lamp: usize) -> Light
+        ensures { λ r. ⌜ r ≡ making-of (now (self .entry)) .system .light state lamp ⌝ }
+    {
+        light_in(self.header, self.lights, state, lamp)
+    }
+
+    fn is_full_of_moves(&self) -> bool
+        ensures { λ r. ⌜ r ≡ is-full (making-of (now (self .entry)) .places .moves) ⌝ }
+    {
+        self.header.drawn >= room(self.moves)
+    }
+
     fn is_full_of_lights(&self) -> bool
         ensures { λ r. ⌜ r ≡ is-full (making-of (now (self .entry)) .places .lights) ⌝ }
     {
         self.header.lit >= room(self.lights)
-    }
-}
-
-pub impl System for Table<'_> as TableSystem {
-    ghost meaning = { λ t. table-meaning (t .header .sizes) (now-of (t .moves)) (t .header .drawn) (now-of (t .lights)) (t .header .lit) };
-
-    fn sizes(&self) -> Sizes {
-        self.header.sizes
-    }
-
-    fn kind(&self, from: usize, action: usize, to: usize) -> Kind {
-        kind_in(self.header, self.moves, from, action, to)
-    }
-
-    fn light(&self, state: usize, lamp: usize) -> Light {
-        light_in(self.header, self.lights, state, lamp)
     }
 }

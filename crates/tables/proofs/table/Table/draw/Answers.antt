@@ -6,7 +6,7 @@ use Rattle.tables.proofs.table.Table.draw.Needs as need
 pub returns : need.returns
 returns c =
     let t = c .args .self .now in
-    let free = sym (c .if-is-possible .ensures tt ∙ ap possible (c .kind .ensures)) in
+    let free = sym (c .if-is-possible .ensures tt ∙ ap possible (c .kind-so-far .ensures)) in
     let room = sym (c .if-is-full-of-moves .ensures tt) in
     record {
       answer = takes-move (t .header .sizes) (t .moves .now) (t .header .drawn) (t .lights .now) (t .header .lit) (c .args .from) (c .args .action) (c .args .to) (c .if-from-sizes .left) (c .if-to-sizes .left) (c .if-action-sizes .left) free room;

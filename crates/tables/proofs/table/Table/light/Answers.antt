@@ -6,7 +6,7 @@ use Rattle.tables.proofs.table.Table.light.Needs as need
 pub returns : need.returns
 returns c =
     let t = c .args .self .now in
-    let free = ap known (sym (c .light .ensures)) ∙ sym (c .if-is-known .ensures tt) in
+    let free = sym (c .if-is-known .ensures tt ∙ ap known (c .light-so-far .ensures)) in
     let room = sym (c .if-is-full-of-lights .ensures tt) in
     record {
       answer = takes-light (t .header .sizes) (t .moves .now) (t .header .drawn) (t .lights .now) (t .header .lit) (c .args .state) (c .args .lamp) (c .if-state-sizes .left) (c .if-lamp-sizes .left) free room;
