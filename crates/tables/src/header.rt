@@ -1,5 +1,6 @@
 // What a table keeps beside the lists that it is lent: its sizes, within the limits, and how many
 // entries of each list are in use.
+ghost use mathlib.Core.Path.{_≡_};
 ghost use Prim.Native.Nat.{_≤_, _<_};
 use systems::Sizes;
 
@@ -18,4 +19,22 @@ pub struct Header {
     ghost started: { sizes .start < sizes .states },
     ghost few_drawn: { drawn ≤ 2048 },
     ghost few_lit: { lit ≤ 2048 },
+}
+
+impl Header {
+    // These sizes, and no entry in use.
+    pub(crate) fn blank(sizes: Sizes) -> Header
+        requires some { ⌜ 0 < sizes .states ⌝ }
+        requires few { ⌜ sizes .states ≤ 256 ⌝ }
+        requires actions { ⌜ sizes .actions ≤ 8 ⌝ }
+        requires lamps { ⌜ sizes .lamps ≤ 8 ⌝ }
+        requires start { ⌜ sizes .start < sizes .states ⌝ }
+        ensures { λ r. ⌜ (r .sizes ≡ sizes) × (r .drawn ≡ 0) × (r .lit ≡ 0) ⌝ }
+    {
+        Header {
+            sizes,
+            drawn: 0,
+            lit: 0,
+        }
+    }
 }

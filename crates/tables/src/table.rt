@@ -22,7 +22,6 @@ use systems::Modality;
 use systems::Refusal;
 use systems::Setting;
 use systems::Sizes;
-use systems::System;
 
 #[derive(Drop)]
 pub struct Table<'a> {
@@ -47,11 +46,7 @@ impl<'a> Table<'a> {
             start: 0,
         };
         Table {
-            header: Header {
-                sizes,
-                drawn: 0,
-                lit: 0,
-            },
+            header: Header::blank(sizes),
             moves,
             lights,
         }
@@ -75,11 +70,7 @@ impl<'a> Table<'a> {
         if sizes.start >= sizes.states {
             return Err(Refusal::Start);
         }
-        self.header = Header {
-            sizes,
-            drawn: 0,
-            lit: 0,
-        };
+        self.header = Header::blank(sizes);
         Ok(())
     }
 
