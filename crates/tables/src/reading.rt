@@ -8,6 +8,7 @@ impl<'a> Table<'a> {
     // The system as it stands so far.
     pub fn read(&self) -> Listed<'_>
         ensures meaning { λ r. ⌜ listed-meaning r ≡ making-of (now (self .entry)) .system ⌝ }
+        ensures header { λ r. ⌜ r .header ≡ now (self .entry) .header ⌝ }
         ensures moves { λ r. ⌜ now (r .moves) ≡ now (now (self .entry) .moves) ⌝ }
         ensures lights { λ r. ⌜ now (r .lights) ≡ now (now (self .entry) .lights) ⌝ }
     {
@@ -21,6 +22,7 @@ impl<'a> Table<'a> {
     // The system, with the table used up.
     pub fn finish(self) -> Listed<'a>
         ensures meaning { λ r. ⌜ listed-meaning r ≡ making-of (self .entry) .system ⌝ }
+        ensures header { λ r. ⌜ r .header ≡ self .entry .header ⌝ }
         ensures moves { λ r. ⌜ now (r .moves) ≡ now (self .entry .moves) ⌝ }
         ensures lights { λ r. ⌜ now (r .lights) ≡ now (self .entry .lights) ⌝ }
     {
