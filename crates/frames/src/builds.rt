@@ -16,13 +16,7 @@ pub impl Builder for Draft as DraftBuilder {
         Draft::size(self, sizes)
     }
 
-    fn draw(
-        &mut self,
-        from: usize,
-        action: usize,
-        to: usize,
-        modality: Modality,
-    ) -> Result<(), Refusal> {
+    fn draw(&mut self, from: usize, action: usize, to: usize, modality: Modality) -> Result<(), Refusal> {
         Draft::draw(self, from, action, to, modality)
     }
 

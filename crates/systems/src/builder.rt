@@ -18,13 +18,7 @@ pub trait Builder {
         ensures after { λ r. ⌜ making (now (self .exit)) ≡ after r (sized (making (now (self .entry))) sizes) (making (now (self .entry))) ⌝ };
 
     // Adds a move that is not there yet.
-    fn draw(
-        &mut self,
-        from: usize,
-        action: usize,
-        to: usize,
-        modality: Modality,
-    ) -> Result<(), Refusal>
+    fn draw(&mut self, from: usize, action: usize, to: usize, modality: Modality) -> Result<(), Refusal>
         ensures answer { λ r. ⌜ r ≡ moved-answer (making (now (self .entry))) from action to ⌝ }
         ensures after { λ r. ⌜ making (now (self .exit)) ≡ after r (moved (making (now (self .entry))) from action to (drawn modality)) (making (now (self .entry))) ⌝ };
 
