@@ -1,0 +1,7 @@
+// The reader of formulas: a text of at most 128 bytes becomes a closed formula, held as nodes each
+// of which names only earlier ones.
+mod node;
+mod sentence;
+
+pub use node::Node;
+pub use sentence::Sentence;
