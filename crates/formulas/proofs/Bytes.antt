@@ -55,6 +55,10 @@ pub binary-forth : (b : ℕ) (o : Binary) → binary-of b ≡ Some o → binary-
 binary-forth b And h = grind (arith, tells)
 binary-forth b Or h = grind (arith, tells)
 
+pub binary-some : (o : Binary) → 0 < binary-sign o
+binary-some And = lit< tt
+binary-some Or = lit< tt
+
 -- the formula's first sign
 abbrev pub head-of : Formula → Start
 head-of (leaf l) = Atom l
@@ -122,7 +126,7 @@ prefix-least a b c x h = (grind (arith, tells), grind (arith, tells), grind (ari
 prefix-greatest : (a b c : ℕ) (x : Variable) → prefix-of a b c ≡ Some (Greatest x) → (110 ≡ a) × (46 ≡ c) × (variable-of b ≡ Some x)
 prefix-greatest a b c x h = (grind (arith, tells), grind (arith, tells), grind (arith, tells))
 
-first-of : (t : List ℕ) (a : ℕ) → a ≡ getD t 0 0 → 0 < a → t ≡ a ∷ drop 1 t
+pub first-of : (t : List ℕ) (a : ℕ) → a ≡ getD t 0 0 → 0 < a → t ≡ a ∷ drop 1 t
 first-of [] a e h = absurd (omega arith)
 first-of (x ∷ t) a e h = ap (λ y. y ∷ t) (sym e)
 

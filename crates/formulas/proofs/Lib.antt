@@ -1,2 +1,6 @@
 pub mod Bytes
 pub mod Spelled
+pub mod Tables
+pub mod Steps
+pub mod Refused
+pub mod Made
