@@ -4,3 +4,5 @@ pub mod Tables
 pub mod Steps
 pub mod Refused
 pub mod Made
+pub mod Wholes
+pub mod Checked

@@ -17,6 +17,10 @@ use Rattle.formulas.specs.Texts.{text-of, Reads}
 abbrev pub Unread : List ℕ → Type 0
 Unread t = (f : Formula) (rest : List ℕ) → within-letters 8 8 f ≡ true → t ≡ text-of f ++ rest → ⊥
 
+-- the text as a whole is no formula
+abbrev pub Unreadable : List ℕ → Type 0
+Unreadable t = (f : Formula) → Reads t f → ⊥
+
 -- A formula stands in the text t at a place, and was made into nodes from the count-th on. The nodes
 -- before that are kept, and there are at most as many new ones as the formula has bytes.
 pub record Stands (before after : List Node) (count : ℕ) (t : List ℕ) (place : ℕ) (r : Found) : Type 0 where

@@ -4,7 +4,7 @@ ghost use mathlib.Core.Path.{_≡_};
 ghost use Prim.Native.Nat.{_≤_};
 ghost use lib.ListN.{length, drop};
 ghost use Rattle.std.specs.Options.{Cases as BySome};
-ghost use Rattle.formulas.specs.Places.{Unread, Stands};
+ghost use Rattle.formulas.specs.Places.{Unread, Unreadable, Stands, Whole};
 use crate::node::Node;
 use crate::signs::Start;
 use crate::signs::begins;
@@ -29,13 +29,19 @@ fn formula(nodes: &mut [Node; 128], count: usize, text: &[u8], place: usize) -> 
     match begins(text, place) {
         Start::Atom(l) => {
             nodes[count] = Node::Leaf(l);
-            Some(Found { end: place + 1, root: count })
+            Some(Found {
+                end: place + 1,
+                root: count,
+            })
         }
         Start::Operator(p) => {
             let body = formula(nodes, count, text, place + width(p))?;
             let root = body.root + 1;
             nodes[root] = Node::Prefix(p, body.root);
-            Some(Found { end: body.end, root })
+            Some(Found {
+                end: body.end,
+                root,
+            })
         }
         Start::Open => {
             let left = formula(nodes, count, text, place + 1)?;
@@ -46,8 +52,24 @@ fn formula(nodes: &mut [Node; 128], count: usize, text: &[u8], place: usize) -> 
             }
             let root = right.root + 1;
             nodes[root] = Node::Binary(sign, left.root, right.root);
-            Some(Found { end: right.end + 1, root })
+            Some(Found {
+                end: right.end + 1,
+                root,
+            })
         }
         Start::Nothing => None,
+    }
+}
+
+// Reads the text as a whole.
+pub(crate) fn whole(nodes: &mut [Node; 128], text: &[u8]) -> Option<usize>
+    requires { ⌜ length (now text) ≤ 128 ⌝ }
+    ensures { λ r. ⌜ BySome r (Unreadable (now (text .entry))) (λ root. Whole (now (nodes .exit)) (now (text .entry)) root) ⌝ }
+{
+    let found = formula(nodes, 0, text, 0)?;
+    if found.end == text.len() {
+        Some(found.root)
+    } else {
+        None
     }
 }
