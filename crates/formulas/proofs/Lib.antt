@@ -5,4 +5,6 @@ pub mod Steps
 pub mod Refused
 pub mod Made
 pub mod Wholes
-pub mod Checked
+pub mod Computed
+pub mod Prefixes
+pub mod Answered

@@ -63,11 +63,11 @@ module _ (t : List ℕ) (i : ℕ) (h : Open ≡ starts t i) where
     after-left : (rest : List ℕ) (n : Inner (drop (i + 1) t) rest) → drop j t ≡ binary-sign (n .sign) ∷ (text-of (n .right) ++ (41 ∷ rest))
     after-left rest n = spelled-once f (n .left) _ _ v (n .left-lettered) (sym before ∙ n .spelled) .1
 
-    pub sign-unread : None ≡ binary-of (getD t j 0) → Unread (drop i t)
-    sign-unread none g rest w e =
+    pub sign-unread : (b : ℕ) → b ≡ getD t j 0 → None ≡ binary-of b → Unread (drop i t)
+    sign-unread b read none g rest w e =
         let n = inner g rest w e in
-        let read = sym (byte-drop t j) ∙ ap (λ l. getD l 0 0) (after-left rest n) in
-        let z = none ∙ ap binary-of read ∙ binary-back (n .sign) in
+        let same = read ∙ sym (byte-drop t j) ∙ ap (λ l. getD l 0 0) (after-left rest n) in
+        let z = none ∙ ap binary-of same ∙ binary-back (n .sign) in
         absurdly (cc)
 
     pub right-unread : (b : ℕ) → At-byte t j b → Unread (drop (j + 1) t) → Unread (drop i t)
@@ -77,10 +77,10 @@ module _ (t : List ℕ) (i : ℕ) (h : Open ≡ starts t i) where
         let after = after-left rest n in
         none (n .right) (41 ∷ rest) (n .right-lettered) (cc)
 
-    pub close-unread : (b : ℕ) → At-byte t j b → (g : Formula) → within-letters 8 8 g ≡ true → (k : ℕ) → drop (j + 1) t ≡ text-of g ++ drop k t → (getD t k 0 ≡ 41 → ⊥) → Unread (drop i t)
-    close-unread b at g u k right none d rest w e =
+    pub close-unread : (b : ℕ) → At-byte t j b → (g : Formula) → within-letters 8 8 g ≡ true → (k : ℕ) → drop (j + 1) t ≡ text-of g ++ drop k t → (c : ℕ) → c ≡ getD t k 0 → (c ≡ 41 → ⊥) → Unread (drop i t)
+    close-unread b at g u k right c read none d rest w e =
         let n = inner d rest w e in
         let front = at .front in
         let after = after-left rest n in
         let tails : text-of g ++ drop k t ≡ text-of (n .right) ++ (41 ∷ rest) = cc in
-        none (sym (byte-drop t k) ∙ ap (λ l. getD l 0 0) (spelled-once g (n .right) _ _ u (n .right-lettered) tails .1))
+        none (read ∙ sym (byte-drop t k) ∙ ap (λ l. getD l 0 0) (spelled-once g (n .right) _ _ u (n .right-lettered) tails .1))

@@ -5,6 +5,7 @@ use mathlib.Core.List.{List, [], _∷_, _++_}
 use Prim.Native.Nat.{ℕ, _+_, _≤_, _<_}
 use native.Mathlib.Nat.{add-zero}
 use native.Mathlib.Omega.{arith}
+use lib.Dec.{lit<}
 use lib.ListN.{length, getD, drop}
 use Rattle.std.proofs.shelf.Lists.{drop-drop, getD-drop, length-drop, length-append}
 use Rattle.std.specs.declared.option.Option.the-variants.{Some}
@@ -65,13 +66,16 @@ pub record At-byte (t : List ℕ) (i b : ℕ) : Type 0 where
   pub front : drop i t ≡ b ∷ drop (i + 1) t
   pub inside : i + 1 ≤ length t
 
-pub at-byte : (t : List ℕ) (i b : ℕ) → b ≡ getD t i 0 → 0 < b → At-byte t i b
+at-byte : (t : List ℕ) (i b : ℕ) → b ≡ getD t i 0 → 0 < b → At-byte t i b
 at-byte t i b e some =
     let front : drop i t ≡ b ∷ drop (i + 1) t = first-of (drop i t) b (e ∙ sym (byte-drop t i)) some ∙ ap (λ r. b ∷ r) (drop-drop 1 i t) in
     record { front = front; inside = fits t (b ∷ []) (drop (i + 1) t) i (omega arith) front }
 
 pub at-sign : (t : List ℕ) (i b : ℕ) (o : Binary) → b ≡ getD t i 0 → Some o ≡ binary-of b → At-byte t i (binary-sign o)
 at-sign t i b o e h = at-byte t i (binary-sign o) (binary-forth b o (sym h) ∙ e) (binary-some o)
+
+pub at-close : (t : List ℕ) (i b : ℕ) → b ≡ getD t i 0 → b ≡ 41 → At-byte t i 41
+at-close t i b e h = at-byte t i 41 (sym h ∙ e) (lit< tt)
 
 pub at-bracket : (t : List ℕ) (i : ℕ) → Open ≡ starts t i → At-byte t i 40
 at-bracket t i h =

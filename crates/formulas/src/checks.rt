@@ -17,6 +17,9 @@ use calculus::Leaf;
 use calculus::Prefix;
 use systems::Refusal;
 
+// How many binders may stand within one another.
+const DEEPEST: usize = 3;
+
 // The node at a place, and the leaf T where there is none.
 pub(crate) fn node_at(nodes: &[Node; 128], at: usize) -> Node
     ensures { λ r. ⌜ r ≡ getD (now (nodes .entry)) at (Sole Truth) ⌝ }
@@ -125,7 +128,7 @@ pub(crate) fn judge(
     if !bound(nodes, root, Standings::unbound()) {
         return Err(Refusal::Unbound);
     }
-    if depth(nodes, root) > 3 {
+    if depth(nodes, root) > DEEPEST {
         return Err(Refusal::Nesting);
     }
     Ok(())

@@ -3,7 +3,8 @@ use mathlib.Core.Bool.{true, false, _&&_}
 use native.Mathlib.Omega.{arith}
 use Rattle.calculus.specs.Formula.{closed-under}
 use Rattle.formulas.specs.Standings.{standings-of}
-use Rattle.formulas.proofs.Checked.{prefix-formed, fork-formed, over-prefix, left-passes, left-fails, closed-prefix}
+use Rattle.formulas.proofs.Computed.{prefix-formed, fork-formed, over-prefix, left-passes, left-fails}
+use Rattle.formulas.proofs.Prefixes.{closed-prefix}
 use Rattle.formulas.proofs.checks.+bound.Needs as need
 
 pub bound-requires : need.bound-requires

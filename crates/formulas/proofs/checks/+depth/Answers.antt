@@ -1,11 +1,12 @@
-use mathlib.Core.Path.{refl, sym, ap, _∙_}
+use mathlib.Core.Path.{_≡_, refl, sym, ap, _∙_}
 use mathlib.Core.Bool.{cond}
 use Prim.Native.Nat.{suc, _+_, max}
 use native.Mathlib.Numerals.{add-one}
 use native.Mathlib.Omega.{arith}
 use borrow.Author.Needs.{needs}
 use Rattle.calculus.specs.Formula.{nesting}
-use Rattle.formulas.proofs.Checked.{prefix-formed, fork-formed, over-prefix, over-fork, nesting-prefix}
+use Rattle.formulas.proofs.Computed.{prefix-formed, fork-formed, over-prefix, over-fork}
+use Rattle.formulas.proofs.Prefixes.{nesting-prefix}
 use Rattle.formulas.proofs.checks.+depth.Needs as need
 
 pub depth-inner-requires : need.depth-inner-requires
@@ -50,10 +51,9 @@ returns-else-is-binder t c =
 pub returns-in-Binary : need.returns-in-Binary
 returns-in-Binary t c =
     let part = fork-formed (c .args .nodes .now) (c .args .at) _ (c .in-Binary .left) (c .in-Binary .right) (c .pre) (c .in-Binary .ensures tt) in
-    let e = c .max .ensures in
     let low = c .depth .ensures .small in
     let also = c .depth-in-Binary .ensures .small in
     record {
-      value = λ f stands. e ∙ over-fork (c .args .nodes .now) (c .args .at) nesting _ (c .in-Binary .left) (c .in-Binary .right) (c .depth .result) (c .depth-in-Binary .result) max (c .in-Binary .ensures tt) (c .depth .ensures .value) (c .depth-in-Binary .ensures .value) (λ g h. refl) f stands;
+      value = λ f stands. let e : max (c .depth .result) (c .depth-in-Binary .result) ≡ nesting f = over-fork (c .args .nodes .now) (c .args .at) nesting _ (c .in-Binary .left) (c .in-Binary .right) (c .depth .result) (c .depth-in-Binary .result) max (c .in-Binary .ensures tt) (c .depth .ensures .value) (c .depth-in-Binary .ensures .value) (λ g h. refl) f stands in omega arith;
       small = omega arith;
     }

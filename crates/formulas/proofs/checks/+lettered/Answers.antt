@@ -2,7 +2,8 @@ use mathlib.Core.Path.{refl, sym, ap, _∙_}
 use mathlib.Core.Bool.{true, false, _&&_}
 use native.Mathlib.Omega.{arith}
 use Rattle.calculus.specs.Formula.{within-letters}
-use Rattle.formulas.proofs.Checked.{prefix-formed, fork-formed, over-prefix, left-passes, left-fails, within-prefix}
+use Rattle.formulas.proofs.Computed.{prefix-formed, fork-formed, over-prefix, left-passes, left-fails}
+use Rattle.formulas.proofs.Prefixes.{within-prefix}
 use Rattle.formulas.proofs.checks.+lettered.Needs as need
 
 pub lettered-requires : need.lettered-requires

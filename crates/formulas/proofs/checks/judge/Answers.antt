@@ -1,6 +1,7 @@
 use mathlib.Core.Path.{sym, _∙_}
 use native.Mathlib.Omega.{arith}
-use Rattle.formulas.proofs.Checked.{closed-unbound, answers-foreign, answers-unbound, answers-nesting, answers-ok}
+use Rattle.formulas.proofs.Prefixes.{closed-unbound}
+use Rattle.formulas.proofs.Answered.{answers-foreign, answers-unbound, answers-nesting, answers-ok}
 use Rattle.formulas.proofs.checks.judge.Needs as need
 
 pub returns-then-not-lettered : need.returns-then-not-lettered
@@ -11,8 +12,8 @@ returns-then-not-bound c f stands =
     let none = c .unbound .ensures in
     answers-unbound (c .args .actions) (c .args .lamps) f (c .if-not-lettered .ensures tt f stands) (c .if-not-bound .ensures tt f stands ∙ closed-unbound (c .unbound .result) f (none .x) (none .y) (none .z))
 
-pub returns-then-depth-gt3 : need.returns-then-depth-gt3
-returns-then-depth-gt3 c f stands =
+pub returns-then-depth-gt-DEEPEST : need.returns-then-depth-gt-DEEPEST
+returns-then-depth-gt-DEEPEST c f stands =
     let none = c .unbound .ensures in
     answers-nesting (c .args .actions) (c .args .lamps) f (c .if-not-lettered .ensures tt f stands) (c .if-not-bound .ensures tt f stands ∙ closed-unbound (c .unbound .result) f (none .x) (none .y) (none .z))
     (omega (arith, c .depth .ensures .value f stands))
