@@ -2,3 +2,4 @@ pub mod Tables
 pub mod Kept
 pub mod Changes
 pub mod Copied
+pub mod Held
