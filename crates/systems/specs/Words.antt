@@ -20,6 +20,11 @@ certain Absent = false
 certain Optional = false
 certain Certain = true
 
+abbrev pub optional : Kind → Bool
+optional Absent = false
+optional Optional = true
+optional Certain = false
+
 abbrev pub drawn : Modality → Kind
 drawn May = Optional
 drawn Must = Certain

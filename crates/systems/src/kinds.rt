@@ -1,6 +1,6 @@
 // The words in which a system is described.
 ghost use mathlib.Core.Path.{_≡_};
-ghost use Rattle.systems.specs.Words.{possible, certain, known, is-on, is-off, drawn, shown};
+ghost use Rattle.systems.specs.Words.{possible, optional, certain, known, is-on, is-off, drawn, shown};
 
 // A move from one state to another on an action. An optional move may be there in a refinement, a
 // certain one must be. Optional and certain moves are the possible ones.
@@ -19,6 +19,16 @@ impl Kind {
             Kind::Absent => false,
             Kind::Optional => true,
             Kind::Certain => true,
+        }
+    }
+
+    pub fn is_optional(self) -> bool
+        ensures { λ r. ⌜ r ≡ optional self ⌝ }
+    {
+        match self {
+            Kind::Absent => false,
+            Kind::Optional => true,
+            Kind::Certain => false,
         }
     }
 
