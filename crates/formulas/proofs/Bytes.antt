@@ -1,8 +1,8 @@
 -- The signs of leaves, prefixes and binary formulas are told apart by their bytes. Assumes nothing.
-use mathlib.Core.Path.{_≡_, refl, sym, ap, _∙_}
-use mathlib.Core.Bool.{Bool, true, false, cond, _&&_}
+use mathlib.Core.Path.{_≡_, refl, sym, ap}
+use mathlib.Core.Bool.{Bool, true, false, cond}
 use mathlib.Core.List.{List, [], _∷_, _++_}
-use Prim.Native.Nat.{ℕ, _+_, _-_, _<_, _≤_}
+use Prim.Native.Nat.{ℕ, _+_, _<_}
 use native.Mathlib.Omega.{arith}
 use lib.Dec.{eqb, ltb, lit<}
 use lib.ListN.{length, getD, drop}
@@ -21,7 +21,7 @@ use Rattle.calculus.specs.declared.syntax.Prefix.the-variants.{Not, Diamond, Bo
 use Rattle.calculus.specs.declared.syntax.Binary.{Binary}
 use Rattle.calculus.specs.declared.syntax.Binary.the-variants.{And, Or}
 use Rattle.formulas.specs.declared.signs.Start.{Start}
-use Rattle.formulas.specs.declared.signs.Start.the-variants.{Atom, Operator, Open, Nothing}
+use Rattle.formulas.specs.declared.signs.Start.the-variants.{Atom, Operator, Open}
 use Rattle.formulas.specs.Texts.{variable-sign, leaf-sign, prefix-signs, binary-sign, text-of}
 use Rattle.formulas.specs.Signs.{variable-of, action-of, lamp-of, leaf-of, prefix-of, binary-of, start-from, start-of, starts}
 

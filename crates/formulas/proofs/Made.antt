@@ -1,14 +1,13 @@
 -- What the reader makes at a leaf, a prefix and a bracket. Assumes nothing.
-use mathlib.Core.Path.{_≡_, refl, sym, ap, _∙_}
-use mathlib.Core.Bool.{true}
+use mathlib.Core.Path.{_≡_, sym, ap, _∙_}
 use mathlib.Core.Logic.{_≢_}
-use mathlib.Core.List.{List, [], _∷_, _++_}
-use Prim.Native.Nat.{ℕ, _+_, _≤_, _<_}
+use mathlib.Core.List.{List, _∷_, _++_}
+use Prim.Native.Nat.{ℕ, _+_, _<_}
 use native.Mathlib.Omega.{arith}
 use lib.ListN.{length, getD, set, drop}
 use Rattle.std.proofs.shelf.Lists.{getD-set-other}
 use Rattle.std.proofs.shelf.Tests.{and-from}
-use Rattle.calculus.specs.Formula.{Formula, leaf, prefix, binary, within-letters}
+use Rattle.calculus.specs.Formula.{leaf, prefix, binary, within-letters}
 use Rattle.calculus.specs.declared.syntax.Leaf as leaves
 use Rattle.calculus.specs.declared.syntax.Leaf.the-variants.{True}
 use Rattle.calculus.specs.declared.syntax.Prefix as prefixes

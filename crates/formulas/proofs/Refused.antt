@@ -1,17 +1,17 @@
 -- Where no formula stands. Assumes nothing.
-use mathlib.Core.Path.{_≡_, refl, sym, ap, _∙_}
+use mathlib.Core.Path.{_≡_, sym, ap, _∙_}
 use mathlib.Core.Bool.{true}
-use mathlib.Core.List.{List, [], _∷_, _++_}
+use mathlib.Core.List.{List, _∷_, _++_}
 use Prim.Native.Nat.{ℕ, _+_}
 use native.Mathlib.Omega.{arith}
 use lib.ListN.{getD, drop}
 use Rattle.std.proofs.shelf.Lists.{append-cancel-left}
 use Rattle.std.proofs.shelf.Tests.{and-parts}
-use Rattle.std.specs.declared.option.Option.the-variants.{Some, None}
+use Rattle.std.specs.declared.option.Option.the-variants.{None}
 use Rattle.calculus.specs.Formula.{Formula, leaf, prefix, binary, within-letters}
 use Rattle.calculus.specs.declared.syntax.Prefix.{Prefix}
 use Rattle.calculus.specs.declared.syntax.Binary.{Binary}
-use Rattle.formulas.specs.declared.signs.Start.the-variants.{Atom, Operator, Open, Nothing}
+use Rattle.formulas.specs.declared.signs.Start.the-variants.{Operator, Open, Nothing}
 use Rattle.formulas.specs.Texts.{prefix-signs, binary-sign, text-of}
 use Rattle.formulas.specs.Signs.{binary-of, starts}
 use Rattle.formulas.specs.Places.{Unread}

@@ -1,18 +1,16 @@
 -- No text of a formula is the front of another's: a text is read in one way. Assumes nothing.
-use mathlib.Core.Path.{_≡_, refl, sym, ap, _∙_}
-use mathlib.Core.Bool.{true, _&&_}
+use mathlib.Core.Path.{_≡_, sym, ap, _∙_}
+use mathlib.Core.Bool.{true}
 use mathlib.Core.List.{List, [], _∷_, _++_}
 use Prim.Native.Nat.{ℕ}
-use native.Mathlib.Omega.{arith}
 use lib.Dec.{ltb}
-use lib.ListN.{getD}
 use Rattle.std.proofs.shelf.Lists.{append-assoc, append-cancel-left}
 use Rattle.std.proofs.shelf.Tests.{and-parts}
 use Rattle.calculus.specs.Formula.{Formula, leaf, prefix, binary, within-letters}
 use Rattle.calculus.specs.declared.syntax.Prefix.{Prefix}
 use Rattle.calculus.specs.declared.syntax.Prefix.the-variants.{Not, Diamond, Box, Least, Greatest}
 use Rattle.calculus.specs.declared.syntax.Binary.{Binary}
-use Rattle.formulas.specs.Texts.{prefix-signs, binary-sign, text-of, Reads}
+use Rattle.formulas.specs.Texts.{prefix-signs, binary-sign, text-of}
 use Rattle.formulas.specs.Readings.{One-reading}
 use Rattle.formulas.specs.Signs.{binary-of, starts}
 use Rattle.formulas.proofs.Bytes.{head-of, starts-as, binary-back}

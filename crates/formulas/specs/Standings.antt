@@ -1,5 +1,5 @@
 -- How the three variables stand to a place of a formula. Assumes nothing.
-use mathlib.Core.Bool.{Bool, true, false}
+use mathlib.Core.Bool.{Bool, true}
 use Rattle.calculus.specs.Formula as formulas
 use Rattle.calculus.specs.declared.syntax.Variable.{Variable}
 use Rattle.calculus.specs.declared.syntax.Variable.the-variants.{X, Y, Z}

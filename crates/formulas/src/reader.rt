@@ -1,6 +1,5 @@
 // The reader: a text becomes nodes, one for each formula in it, and a node comes after those of
 // its parts.
-ghost use mathlib.Core.Path.{_≡_};
 ghost use Prim.Native.Nat.{_≤_};
 ghost use lib.ListN.{length, drop};
 ghost use Rattle.std.specs.Options.{Cases as BySome};
@@ -19,7 +18,8 @@ pub(crate) struct Found {
     pub(crate) root: usize,
 }
 
-// Reads the formula that begins at a place, with so many nodes made before it.
+// Reads the formula that begins at a place, with `count` nodes made before it. A formula has at
+// least as many bytes as nodes, so there is always room for the next one.
 fn formula(nodes: &mut [Node; 128], count: usize, text: &[u8], place: usize) -> Option<Found>
     requires few { ⌜ count ≤ place ⌝ }
     requires within { ⌜ place ≤ length (now text) ⌝ }

@@ -1,5 +1,4 @@
 use mathlib.Core.Path.{refl, sym, ap, _∙_}
-use mathlib.Core.Bool.{true, false, _&&_}
 use native.Mathlib.Omega.{arith}
 use Rattle.calculus.specs.Formula.{closed-under}
 use Rattle.formulas.specs.Standings.{standings-of}

@@ -1,5 +1,5 @@
 use mathlib.Core.Path.{refl, sym, ap, _∙_}
-use mathlib.Core.Bool.{true, false, _&&_}
+use mathlib.Core.Bool.{_&&_}
 use native.Mathlib.Omega.{arith}
 use Rattle.calculus.specs.Formula.{within-letters}
 use Rattle.formulas.proofs.Computed.{prefix-formed, fork-formed, over-prefix, left-passes, left-fails}

@@ -1,4 +1,4 @@
-use mathlib.Core.Path.{sym, _∙_}
+use mathlib.Core.Path.{_∙_}
 use native.Mathlib.Omega.{arith}
 use Rattle.formulas.proofs.Prefixes.{closed-unbound}
 use Rattle.formulas.proofs.Answered.{answers-foreign, answers-unbound, answers-nesting, answers-ok}

@@ -1,5 +1,5 @@
 use mathlib.Core.Path.{sym}
-use Rattle.formulas.specs.Readings.{Refused, by-length, by-form, by-formula}
+use Rattle.formulas.specs.Readings.{by-length, by-form, by-formula}
 use Rattle.formulas.proofs.sentence.Sentence.read.Needs as need
 
 pub returns-then-wrong-length : need.returns-then-wrong-length
