@@ -1,0 +1,5 @@
+pub mod Evaluated
+pub mod Holding
+pub mod Signs
+pub mod Standing
+pub mod Values
