@@ -1,1 +1,2 @@
 pub mod Tightenings
+pub mod Marks
