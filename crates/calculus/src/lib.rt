@@ -5,5 +5,8 @@ mod syntax;
 pub use syntax::Binary;
 pub use syntax::Leaf;
 pub use syntax::Mark;
+pub use syntax::MarkDebug;
+pub use syntax::MarkEq;
+pub use syntax::MarkPartialEq;
 pub use syntax::Prefix;
 pub use syntax::Variable;
