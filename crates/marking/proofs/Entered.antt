@@ -16,12 +16,14 @@ use Rattle.systems.specs.Meaning.{Meaning, states}
 use Rattle.systems.specs.Words.{possible, certain, known, is-on}
 use Rattle.systems.specs.declared.kinds.Kind.{Kind}
 use Rattle.systems.specs.declared.kinds.Kind.the-variants.{Absent, Optional, Certain}
+use Rattle.systems.specs.declared.kinds.Modality.{Modality}
+use Rattle.systems.specs.declared.kinds.Modality.the-variants.{May, Must}
 use Rattle.systems.specs.declared.kinds.Light.{Light}
 use Rattle.systems.specs.declared.kinds.Light.the-variants.{Unknown, On, Off}
 use Rattle.marking.specs.Holding.{Below}
-use Rattle.marking.specs.Signs.{enters-some, enters-only}
+use Rattle.marking.specs.Signs.{among, enters-some, enters-only}
 
-pub possible-to : (f : Frame) (s a t : ℕ) → possible (meaning-of f .kind s a t) ≡ true → t < states (meaning-of f)
+possible-to : (f : Frame) (s a t : ℕ) → possible (meaning-of f .kind s a t) ≡ true → t < states (meaning-of f)
 possible-to f s a t h = ltb-true t (states (meaning-of f)) (and-parts _ _ (lawful f .moves-within s a t h) .1)
 
 certain-possible : (k : Kind) → certain k ≡ true → possible k ≡ true
@@ -29,8 +31,10 @@ certain-possible Absent h = h
 certain-possible Optional h = refl
 certain-possible Certain h = refl
 
-pub certain-to : (f : Frame) (s a t : ℕ) → certain (meaning-of f .kind s a t) ≡ true → t < states (meaning-of f)
-certain-to f s a t h = possible-to f s a t (certain-possible (meaning-of f .kind s a t) h)
+-- every move enters a state
+pub moves-to : (f : Frame) (which : Modality) (s a t : ℕ) → among which (meaning-of f .kind s a t) ≡ true → t < states (meaning-of f)
+moves-to f May s a t h = possible-to f s a t h
+moves-to f Must s a t h = possible-to f s a t (certain-possible (meaning-of f .kind s a t) h)
 
 on-known : (l : Light) → is-on l ≡ true → known l ≡ true
 on-known Unknown h = h

@@ -10,7 +10,15 @@ use Rattle.calculus.specs.declared.syntax.Prefix.the-variants.{Not, Diamond, Bo
 use Rattle.calculus.specs.Pairs.{Pair, not-pair, diamond-pair, box-pair}
 use Rattle.systems.specs.Bounded.{any, all}
 use Rattle.systems.specs.Meaning.{Meaning, states}
+use Rattle.systems.specs.Words.{possible, certain}
 use Rattle.systems.specs.declared.kinds.Kind.{Kind}
+use Rattle.systems.specs.declared.kinds.Modality.{Modality}
+use Rattle.systems.specs.declared.kinds.Modality.the-variants.{May, Must}
+
+-- the possible moves, or the certain ones
+abbrev pub among : Modality → Kind → Bool
+among May = possible
+among Must = certain
 
 -- some move of a kind from s on a enters the set, and every one does
 abbrev pub enters-some : (Kind → Bool) → Meaning → ℕ → (ℕ → Bool) → ℕ → Bool
