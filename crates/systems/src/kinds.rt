@@ -25,11 +25,7 @@ impl Kind {
     pub fn is_optional(self) -> bool
         ensures { λ r. ⌜ r ≡ optional self ⌝ }
     {
-        match self {
-            Kind::Absent => false,
-            Kind::Optional => true,
-            Kind::Certain => false,
-        }
+        matches!(self, Kind::Optional)
     }
 
     pub fn is_certain(self) -> bool
