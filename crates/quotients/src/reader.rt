@@ -1,0 +1,49 @@
+// The quotient that a text describes.
+ghost use mathlib.Core.Path.{_≡_};
+ghost use Rattle.folds.specs.Folds.{fold-meaning};
+ghost use Rattle.frames.specs.Frames.{draft-meaning};
+ghost use Rattle.quotients.specs.Quotients.{reading-into, verdict-of, quotient-after};
+ghost use Rattle.tables.specs.Tables.{making-of};
+use crate::map::ClassMap;
+use crate::parser::QuotientParser;
+use crate::phase::Phase;
+use crate::takes::QuotientLines;
+use folds::Fold;
+use folds::FoldSystem;
+use frames::Draft;
+use listings::Rejection;
+use listings::Stage;
+use tables::LightEntry;
+use tables::ListedSystem;
+use tables::MoveEntry;
+use tables::Table;
+
+// The draft becomes the fold of the controller by the map that the text describes. A refused text
+// leaves the draft as it is. The controller is written into the two lists, whose entries may hold
+// anything before.
+pub fn quotient(
+    text: &[u8],
+    moves: &mut [MoveEntry],
+    lights: &mut [LightEntry],
+    draft: &mut Draft,
+) -> Result<(), Rejection> {
+    let mut parser = QuotientParser {
+        phase: Phase::Part(Stage::SizesNames),
+        table: Table::new(moves, lights),
+        map: ClassMap::blank(1),
+    };
+    match listings::parse(&mut parser, text) {
+        Err(e) => Err(e),
+        Ok(()) => {
+            fold_into(draft, &parser.table, &parser.map);
+            Ok(())
+        }
+    }
+}
+
+// The draft becomes the fold of the table's system. There are classes, at most as many as a frame
+// has states, and states, so nothing is refused.
+fn fold_into(draft: &mut Draft, table: &Table, map: &ClassMap) {
+    let fold = Fold::new(table.read(), map.classes, map.count);
+    let _ = draft.load(&fold);
+}
