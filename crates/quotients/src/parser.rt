@@ -1,7 +1,12 @@
 // A quotient's text, read line by line into a table and a map.
 ghost use mathlib.Core.Path.{_≡_};
+ghost use Prim.Native.Nat.{_≤_};
+ghost use Rattle.quotients.specs.Forms.{class-in};
 ghost use Rattle.quotients.specs.Progress.{progress-of};
 ghost use Rattle.quotients.specs.Steps.{step, part-step, count-step, names-step, class-step, answer-of, next-of};
+ghost use Rattle.systems.specs.Meaning.{states};
+ghost use Rattle.tables.specs.Tables.{making-of};
+ghost use Rattle.text.specs.Numbers.{numeral};
 use crate::forms::class_of;
 use crate::map::ClassMap;
 use crate::phase::Phase;
@@ -24,13 +29,20 @@ pub struct QuotientParser<'a> {
     pub map: ClassMap,
 }
 
-fn states_of(table: &Table) -> usize {
+// How many states the table's system has so far.
+fn states_of(table: &Table) -> usize
+    ensures value { λ r. ⌜ r ≡ states (making-of (now (table .entry)) .system) ⌝ }
+    ensures few { λ r. ⌜ r ≤ 256 ⌝ }
+{
     table.read().sizes().states
 }
 
 impl QuotientParser<'_> {
     // Takes one line, without its line feed.
-    pub(crate) fn take_line(&mut self, line: &[u8]) -> Result<(), Refusal> {
+    pub(crate) fn take_line(&mut self, line: &[u8]) -> Result<(), Refusal>
+        ensures answer { λ r. ⌜ r ≡ answer-of (step (progress-of (now (self .entry))) (now (line .entry))) ⌝ }
+        ensures after { λ _. ⌜ progress-of (now (self .exit)) ≡ next-of (step (progress-of (now (self .entry))) (now (line .entry))) (progress-of (now (self .entry))) ⌝ }
+    {
         match self.phase {
             Phase::Part(stage) => self.take_in_part(stage, line),
             Phase::Count => self.take_count(line),
@@ -39,7 +51,10 @@ impl QuotientParser<'_> {
         }
     }
 
-    fn take_in_part(&mut self, stage: Stage, line: &[u8]) -> Result<(), Refusal> {
+    fn take_in_part(&mut self, stage: Stage, line: &[u8]) -> Result<(), Refusal>
+        ensures answer { λ r. ⌜ r ≡ answer-of (part-step stage (progress-of (now (self .entry))) (now (line .entry))) ⌝ }
+        ensures after { λ _. ⌜ progress-of (now (self .exit)) ≡ next-of (part-step stage (progress-of (now (self .entry))) (now (line .entry))) (progress-of (now (self .entry))) ⌝ }
+    {
         if stage.may_end() && text::same(line, CLASSES_NAMES) {
             self.phase = Phase::Count;
             return Ok(());
@@ -49,7 +64,10 @@ impl QuotientParser<'_> {
         Ok(())
     }
 
-    fn take_count(&mut self, line: &[u8]) -> Result<(), Refusal> {
+    fn take_count(&mut self, line: &[u8]) -> Result<(), Refusal>
+        ensures answer { λ r. ⌜ r ≡ answer-of (count-step (progress-of (now (self .entry))) (numeral (now (line .entry)))) ⌝ }
+        ensures after { λ _. ⌜ progress-of (now (self .exit)) ≡ next-of (count-step (progress-of (now (self .entry))) (numeral (now (line .entry)))) (progress-of (now (self .entry))) ⌝ }
+    {
         match text::number(line) {
             None => Err(Refusal::Form),
             Some(count) => {
@@ -63,7 +81,10 @@ impl QuotientParser<'_> {
         }
     }
 
-    fn take_names(&mut self, line: &[u8]) -> Result<(), Refusal> {
+    fn take_names(&mut self, line: &[u8]) -> Result<(), Refusal>
+        ensures answer { λ r. ⌜ r ≡ answer-of (names-step (progress-of (now (self .entry))) (now (line .entry))) ⌝ }
+        ensures after { λ _. ⌜ progress-of (now (self .exit)) ≡ next-of (names-step (progress-of (now (self .entry))) (now (line .entry))) (progress-of (now (self .entry))) ⌝ }
+    {
         if text::same(line, MAP_NAMES) {
             self.phase = Phase::Map;
             Ok(())
@@ -72,7 +93,10 @@ impl QuotientParser<'_> {
         }
     }
 
-    fn take_class(&mut self, line: &[u8]) -> Result<(), Refusal> {
+    fn take_class(&mut self, line: &[u8]) -> Result<(), Refusal>
+        ensures answer { λ r. ⌜ r ≡ answer-of (class-step (progress-of (now (self .entry))) (class-in (now (line .entry)))) ⌝ }
+        ensures after { λ _. ⌜ progress-of (now (self .exit)) ≡ next-of (class-step (progress-of (now (self .entry))) (class-in (now (line .entry)))) (progress-of (now (self .entry))) ⌝ }
+    {
         match class_of(line) {
             None => Err(Refusal::Form),
             Some(entry) => {

@@ -26,7 +26,10 @@ pub fn quotient(
     moves: &mut [MoveEntry],
     lights: &mut [LightEntry],
     draft: &mut Draft,
-) -> Result<(), Rejection> {
+) -> Result<(), Rejection>
+    ensures answer { λ r. ⌜ r ≡ verdict-of (reading-into (now (moves .entry)) (now (lights .entry)) (now (text .entry))) ⌝ }
+    ensures after { λ _. ⌜ draft-meaning (now (draft .exit)) ≡ quotient-after (reading-into (now (moves .entry)) (now (lights .entry)) (now (text .entry))) (draft-meaning (now (draft .entry))) ⌝ }
+{
     let mut parser = QuotientParser {
         phase: Phase::Part(Stage::SizesNames),
         table: Table::new(moves, lights),
@@ -43,7 +46,9 @@ pub fn quotient(
 
 // The draft becomes the fold of the table's system. There are classes, at most as many as a frame
 // has states, and states, so nothing is refused.
-fn fold_into(draft: &mut Draft, table: &Table, map: &ClassMap) {
+fn fold_into(draft: &mut Draft, table: &Table, map: &ClassMap)
+    ensures { λ _. ⌜ draft-meaning (now (draft .exit)) ≡ fold-meaning (making-of (now (table .entry)) .system) (now (map .entry) .classes .of) (now (map .entry) .count) ⌝ }
+{
     let fold = Fold::new(table.read(), map.classes, map.count);
     let _ = draft.load(&fold);
 }

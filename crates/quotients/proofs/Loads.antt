@@ -1,0 +1,30 @@
+-- A fold by a map that is one can be taken over by a frame. Assumes nothing.
+use mathlib.Core.Path.{_≡_, sym, ap, _∙_}
+use mathlib.Core.Bool.{true, _&&_, _||_}
+use mathlib.Core.List.{List}
+use Prim.Native.Nat.{ℕ, _≤_, _<_}
+use native.Mathlib.Omega.{arith}
+use lib.Dec.{eqb, leb, ltb}
+use Rattle.std.proofs.shelf.Tests.{and-from, or-from, le-leb, lt-ltb, le-ltb, ne-eqb, cond-false}
+use Rattle.std.specs.declared.result.Result.the-variants.{Ok, Err}
+use Rattle.folds.proofs.Abstracted.{folded, fold-is}
+use Rattle.folds.proofs.Mapped.{map-parts}
+use Rattle.folds.specs.Folds.{class-of, is-map, fold-meaning}
+use Rattle.folds.specs.Maps.{each-below, are-classes}
+use Rattle.sets.specs.Sets.{width}
+use Rattle.systems.proofs.Bounded.{all-from}
+use Rattle.systems.specs.Edits.{Answer, load-answer}
+use Rattle.systems.specs.Meaning.{Meaning, states}
+use Rattle.systems.specs.declared.refusal.Refusal.the-variants.{States}
+
+module _ (cs : List ℕ) (count : ℕ) (some : 1 ≤ count) (few : count ≤ width) (below : (s : ℕ) → class-of cs s < count) where
+  classes-are : are-classes cs count ≡ true
+  unfolding are-classes each-below
+  classes-are =
+      and-from (leb 1 count && leb count width) (each-below cs count) (and-from (leb 1 count) (leb count width) (le-leb 1 count some) (le-leb count width few)) (all-from 256 (λ s. ltb (class-of cs s) count) (λ s h. lt-ltb (class-of cs s) count (below s)))
+
+  pub loads : (M : Meaning) → 1 ≤ states M → load-answer width (fold-meaning M cs count) ≡ Ok tt
+  loads M inhabited =
+      let is : is-map M cs count ≡ true = map-parts M cs count ∙ and-from (are-classes cs count) (leb 1 (states M)) classes-are (le-leb 1 (states M) inhabited) in
+      let none : (eqb count 0 || ltb width count) ≡ mathlib.Core.Bool.false = or-from (eqb count 0) (ltb width count) (ne-eqb count 0 (λ e. omega arith)) (le-ltb width count few) in
+      ap (load-answer width) (fold-is M cs count is) ∙ cond-false (eqb count 0 || ltb width count) (Err States) (Ok tt) none
