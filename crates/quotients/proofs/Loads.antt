@@ -1,6 +1,6 @@
 -- A fold by a map that is one can be taken over by a frame. Assumes nothing.
 use mathlib.Core.Path.{_≡_, sym, ap, _∙_}
-use mathlib.Core.Bool.{true, _&&_, _||_}
+use mathlib.Core.Bool.{true, false, _&&_, _||_}
 use mathlib.Core.List.{List}
 use Prim.Native.Nat.{ℕ, _≤_, _<_}
 use native.Mathlib.Omega.{arith}
@@ -13,7 +13,7 @@ use Rattle.folds.specs.Folds.{class-of, is-map, fold-meaning}
 use Rattle.folds.specs.Maps.{each-below, are-classes}
 use Rattle.sets.specs.Sets.{width}
 use Rattle.systems.proofs.Bounded.{all-from}
-use Rattle.systems.specs.Edits.{Answer, load-answer}
+use Rattle.systems.specs.Edits.{Answer, after, load-answer}
 use Rattle.systems.specs.Meaning.{Meaning, states}
 use Rattle.systems.specs.declared.refusal.Refusal.the-variants.{States}
 
@@ -26,5 +26,9 @@ module _ (cs : List ℕ) (count : ℕ) (some : 1 ≤ count) (few : count ≤ wid
   pub loads : (M : Meaning) → 1 ≤ states M → load-answer width (fold-meaning M cs count) ≡ Ok tt
   loads M inhabited =
       let is : is-map M cs count ≡ true = map-parts M cs count ∙ and-from (are-classes cs count) (leb 1 (states M)) classes-are (le-leb 1 (states M) inhabited) in
-      let none : (eqb count 0 || ltb width count) ≡ mathlib.Core.Bool.false = or-from (eqb count 0) (ltb width count) (ne-eqb count 0 (λ e. omega arith)) (le-ltb width count few) in
+      let none : (eqb count 0 || ltb width count) ≡ false = or-from (eqb count 0) (ltb width count) (ne-eqb count 0 (λ e. omega arith)) (le-ltb width count few) in
       ap (load-answer width) (fold-is M cs count is) ∙ cond-false (eqb count 0 || ltb width count) (Err States) (Ok tt) none
+
+  -- what a draft means that has loaded such a fold F
+  pub loaded : (M F old new : Meaning) (r : Answer) → 1 ≤ states M → F ≡ fold-meaning M cs count → r ≡ load-answer width F → new ≡ after r F old → new ≡ fold-meaning M cs count
+  loaded M F old new r inhabited same is became = became ∙ ap (λ a. after a F old) (is ∙ ap (load-answer width) same ∙ loads M inhabited) ∙ same

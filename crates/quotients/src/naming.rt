@@ -23,12 +23,7 @@ impl ClassMap {
     }
 
     // Puts a state that is not named yet into a class, in a system of so many states.
-    pub(crate) fn name(
-        &mut self,
-        states: usize,
-        state: usize,
-        class: usize,
-    ) -> Result<(), Refusal>
+    pub(crate) fn name(&mut self, states: usize, state: usize, class: usize) -> Result<(), Refusal>
         requires { ⌜ states ≤ 256 ⌝ }
         ensures answer { λ r. ⌜ r ≡ name-answer (map-of (now (self .entry))) states state class ⌝ }
         ensures after { λ r. ⌜ map-of (now (self .exit)) ≡ after r (named-as (map-of (now (self .entry))) state class) (map-of (now (self .entry))) ⌝ }
