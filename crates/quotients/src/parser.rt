@@ -3,6 +3,7 @@ ghost use mathlib.Core.Path.{_≡_};
 ghost use Prim.Native.Nat.{_≤_};
 ghost use Rattle.quotients.specs.Forms.{class-in};
 ghost use Rattle.quotients.specs.Progress.{progress-of};
+ghost use Rattle.quotients.specs.Quotients.{first};
 ghost use Rattle.quotients.specs.Steps.{step, part-step, count-step, names-step, class-step, answer-of, next-of};
 ghost use Rattle.systems.specs.Meaning.{states};
 ghost use Rattle.tables.specs.Tables.{making-of};
@@ -13,7 +14,9 @@ use crate::phase::Phase;
 use listings::Stage;
 use systems::Refusal;
 use systems::System;
+use tables::LightEntry;
 use tables::ListedSystem;
+use tables::MoveEntry;
 use tables::Table;
 use tables::TableBuilder;
 
@@ -37,7 +40,18 @@ fn states_of(table: &Table) -> usize
     table.read().sizes().states
 }
 
-impl QuotientParser<'_> {
+impl<'a> QuotientParser<'a> {
+    // Before the first line: an empty table in two lists, and every state in one class.
+    pub fn new(moves: &'a mut [MoveEntry], lights: &'a mut [LightEntry]) -> QuotientParser<'a>
+        ensures { λ r. ⌜ progress-of r ≡ first (now (moves .entry)) (now (lights .entry)) ⌝ }
+    {
+        QuotientParser {
+            phase: Phase::Part(Stage::SizesNames),
+            table: Table::new(moves, lights),
+            map: ClassMap::blank(1),
+        }
+    }
+
     // Takes one line, without its line feed.
     pub(crate) fn take_line(&mut self, line: &[u8]) -> Result<(), Refusal>
         ensures answer { λ r. ⌜ r ≡ answer-of (step (progress-of (now (self .entry))) (now (line .entry))) ⌝ }

@@ -6,13 +6,11 @@ ghost use Rattle.quotients.specs.Quotients.{reading-into, verdict-of, quotient
 ghost use Rattle.tables.specs.Tables.{making-of};
 use crate::map::ClassMap;
 use crate::parser::QuotientParser;
-use crate::phase::Phase;
 use crate::takes::QuotientLines;
 use folds::Fold;
 use folds::FoldSystem;
 use frames::Draft;
 use listings::Rejection;
-use listings::Stage;
 use tables::LightEntry;
 use tables::ListedSystem;
 use tables::MoveEntry;
@@ -30,11 +28,7 @@ pub fn quotient(
     ensures answer { λ r. ⌜ r ≡ verdict-of (reading-into (now (moves .entry)) (now (lights .entry)) (now (text .entry))) ⌝ }
     ensures after { λ _. ⌜ draft-meaning (now (draft .exit)) ≡ quotient-after (reading-into (now (moves .entry)) (now (lights .entry)) (now (text .entry))) (draft-meaning (now (draft .entry))) ⌝ }
 {
-    let mut parser = QuotientParser {
-        phase: Phase::Part(Stage::SizesNames),
-        table: Table::new(moves, lights),
-        map: ClassMap::blank(1),
-    };
+    let mut parser = QuotientParser::new(moves, lights);
     match listings::parse(&mut parser, text) {
         Err(e) => Err(e),
         Ok(()) => {

@@ -1,0 +1,7 @@
+// Checks of tables, folds and quotients by examples.
+#[cfg(test)]
+mod folding;
+#[cfg(test)]
+mod limits;
+#[cfg(test)]
+mod texts;
