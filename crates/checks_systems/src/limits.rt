@@ -69,10 +69,7 @@ fn a_table_has_up_to_2048_moves() -> Result<(), Fail> {
     for to in 0..8 {
         draw_to(&mut table, to)?;
     }
-    check_eq(
-        table.draw(255, 0, 8, Modality::Must),
-        Err(Refusal::Full),
-    )
+    check_eq(table.draw(255, 0, 8, Modality::Must), Err(Refusal::Full))
 }
 
 // How many states the fold of a system of 256 states has.
