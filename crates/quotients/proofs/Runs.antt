@@ -16,7 +16,7 @@ use Rattle.text.specs.Lines.{Line, lines}
 use Rattle.folds.specs.Folds.{fold-meaning}
 use Rattle.quotients.specs.Outcomes.{Outcome, reading-from, reading}
 use Rattle.quotients.specs.Phases.{may-end}
-use Rattle.quotients.specs.Quotients.{verdict-of, quotient-after}
+use Rattle.quotients.specs.Quotients.{verdict-of, quotient-after, Folded, Faithful}
 use Rattle.quotients.specs.Steps.{Progress, Step, step, next-of, verdict-at, Took}
 
 -- a verdict with how far was read agrees with an outcome
@@ -72,3 +72,11 @@ refused-fits e q (Err f) old fit = refl
 pub read-fits : (q : Progress) (o : Outcome) (old : Meaning) → Fits (Ok tt) q o → fold-meaning (q .made .system) (q .map .classes) (q .map .count) ≡ quotient-after o old
 read-fits q (Ok x) old fit = ap (λ (y : Progress). fold-meaning (y .made .system) (y .map .classes) (y .map .count)) (fit .1)
 read-fits q (Err f) old fit = absurd (let z : _≡_ {A = ℕ} 0 1 = cc in omega arith)
+
+pub refused-faithful : (e : Rejection) (q : Progress) (o : Outcome) (F : Meaning) → Fits (Err e) q o → Faithful o F
+refused-faithful e q (Ok x) F fit = absurd (let z : _≡_ {A = ℕ} 0 1 = cc (fit .0) in omega arith)
+refused-faithful e q (Err f) F fit = tt
+
+pub read-faithful : (q : Progress) (o : Outcome) (F : Meaning) → Fits (Ok tt) q o → Folded (q .made .system) (q .map .classes) (q .map .count) F → Faithful o F
+read-faithful q (Ok x) F fit folded = subst (λ (y : Progress). Folded (y .made .system) (y .map .classes) (y .map .count) F) (fit .1) folded
+read-faithful q (Err f) F fit folded = tt

@@ -1,11 +1,14 @@
 -- The quotient that a text describes. Assumes nothing.
 use mathlib.Core.List.{List}
 use Prim.Native.Nat.{ℕ}
+use lib.Dec.{eqb}
 use Rattle.std.specs.declared.result.Result.the-variants.{Ok, Err}
-use Rattle.folds.specs.Folds.{fold-meaning}
+use Rattle.folds.specs.Folds.{class-of, fold-meaning}
+use Rattle.folds.specs.Readings.{Abstraction}
 use Rattle.listings.specs.Runs.{Verdict}
 use Rattle.listings.specs.declared.part.Stage.the-variants.{SizesNames}
 use Rattle.systems.specs.Meaning.{Meaning}
+use Rattle.systems.specs.Refinement.{Refines}
 use Rattle.tables.specs.Entries.{table-making}
 use Rattle.tables.specs.Tables.{first-sizes}
 use Rattle.tables.specs.declared.entries.LightEntry.{LightEntry}
@@ -30,3 +33,14 @@ verdict-of (Err e) = Err e
 abbrev pub quotient-after : Outcome → Meaning → Meaning
 quotient-after (Ok p) old = fold-meaning (p .made .system) (p .map .classes) (p .map .count)
 quotient-after (Err e) old = old
+
+-- F is exactly the abstraction of M by the classes cs, of which there are count, and joining each
+-- state to its class shows that M refines it
+pub record Folded (M : Meaning) (cs : List ℕ) (count : ℕ) (F : Meaning) : Type 0 where
+  pub exact : Abstraction M cs count F
+  pub refined : Refines M F (λ c a. eqb (class-of cs c) a)
+
+-- a text that is taken leaves such a fold behind
+abbrev pub Faithful : Outcome → Meaning → Type 0
+Faithful (Ok p) F = Folded (p .made .system) (p .map .classes) (p .map .count) F
+Faithful (Err e) F = Unit {0}

@@ -2,7 +2,7 @@ use denote.Ref.{now}
 use mathlib.Core.Path.{subst, _∙_}
 use Rattle.std.specs.declared.result.Result.the-variants.{Ok, Err}
 use Rattle.frames.specs.Frames.{draft-meaning}
-use Rattle.quotients.proofs.Runs.{Fits, run-fits, answer-fits, refused-fits, read-fits}
+use Rattle.quotients.proofs.Runs.{Fits, run-fits, answer-fits, refused-fits, read-fits, refused-faithful, read-faithful}
 use Rattle.quotients.proofs.reader.quotient.Needs as need
 use Rattle.quotients.specs.Outcomes.{reading}
 use Rattle.quotients.specs.Progress.{progress-of}
@@ -16,7 +16,7 @@ returns-in-Err c =
     let o = reading-into (now (c .args .moves)) (now (c .args .lights)) text in
     let v = Err (c .in-Err .e) in
     let fit : Fits v q o = subst (λ (p : Progress). Fits v q (reading p text)) (c .new-parser .ensures) (run-fits progress-of (c .in-Err .ensures tt)) in
-    record { answer = answer-fits v q o fit; after = refused-fits (c .in-Err .e) q o (draft-meaning (now (c .args .draft))) fit }
+    record { answer = answer-fits v q o fit; after = refused-fits (c .in-Err .e) q o (draft-meaning (now (c .args .draft))) fit; faithful = refused-faithful (c .in-Err .e) q o (draft-meaning (now (c .args .draft))) fit }
 
 pub returns-in-Ok : need.returns-in-Ok
 returns-in-Ok c =
@@ -24,4 +24,4 @@ returns-in-Ok c =
     let q = progress-of (c .parse .last .parser) in
     let o = reading-into (now (c .args .moves)) (now (c .args .lights)) text in
     let fit : Fits (Ok tt) q o = subst (λ (p : Progress). Fits (Ok tt) q (reading p text)) (c .new-parser .ensures) (run-fits progress-of (c .in-Ok .ensures tt)) in
-    record { answer = answer-fits (Ok tt) q o fit; after = c .fold-into .ensures ∙ read-fits q o (draft-meaning (now (c .args .draft))) fit }
+    record { answer = answer-fits (Ok tt) q o fit; after = c .fold-into .ensures .after ∙ read-fits q o (draft-meaning (now (c .args .draft))) fit; faithful = read-faithful q o (draft-meaning (c .fold-into .last .draft)) fit (c .fold-into .ensures .folded) }
