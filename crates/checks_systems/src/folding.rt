@@ -1,6 +1,6 @@
 // A fold of a small system, and a draft that takes over either.
-use crate::limits::no_light;
-use crate::limits::no_move;
+use crate::entries::no_light;
+use crate::entries::no_move;
 use folds::Classes;
 use folds::Fold;
 use folds::FoldSystem;

@@ -1,5 +1,7 @@
 // Checks of tables, folds and quotients by examples.
 #[cfg(test)]
+mod entries;
+#[cfg(test)]
 mod folding;
 #[cfg(test)]
 mod limits;

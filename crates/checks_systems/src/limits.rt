@@ -1,38 +1,18 @@
 // The most states and moves of a table, and the counts of classes that a fold takes.
+use crate::entries::no_light;
+use crate::entries::no_move;
 use folds::Classes;
 use folds::Fold;
 use folds::FoldSystem;
-use frames::Draft;
-use frames::FrameSystem;
 use std::test::*;
 use systems::Modality;
 use systems::Refusal;
 use systems::RefusalDebug;
 use systems::RefusalPartialEq;
-use systems::Setting;
 use systems::Sizes;
 use systems::System;
-use tables::LightEntry;
 use tables::ListedSystem;
-use tables::MoveEntry;
 use tables::Table;
-
-pub(crate) fn no_move() -> MoveEntry {
-    MoveEntry {
-        from: 0,
-        action: 0,
-        to: 0,
-        modality: Modality::May,
-    }
-}
-
-pub(crate) fn no_light() -> LightEntry {
-    LightEntry {
-        state: 0,
-        lamp: 0,
-        setting: Setting::Off,
-    }
-}
 
 fn of_states(states: usize) -> Sizes {
     Sizes {

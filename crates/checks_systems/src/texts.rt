@@ -1,7 +1,7 @@
 // The refusals of a quotient's text, each with its number and its line; 0 and 0 for a text that is
 // taken.
-use crate::limits::no_light;
-use crate::limits::no_move;
+use crate::entries::no_light;
+use crate::entries::no_move;
 use frames::Draft;
 use std::alloc::AllocError;
 use std::alloc::Global;
