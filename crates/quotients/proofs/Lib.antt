@@ -1,0 +1,4 @@
+pub mod Below
+pub mod Loads
+pub mod Stepped
+pub mod Runs
