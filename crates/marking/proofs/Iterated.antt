@@ -1,9 +1,9 @@
 -- The iteration of a binder at a node: where it starts, goes on and ends. Assumes nothing.
-use mathlib.Core.Path.{_≡_, refl, sym, ap, subst, _∙_}
-use mathlib.Core.Bool.{true, false}
+use mathlib.Core.Path.{_≡_, sym, ap, subst, _∙_}
+use mathlib.Core.Bool.{true}
 use mathlib.Core.List.{List}
 use mathlib.Core.Logic.{⊎-elim}
-use Prim.Native.Nat.{ℕ, _*_, _-_, _≤_, _<_}
+use Prim.Native.Nat.{ℕ, _*_, _-_, _<_}
 use native.Mathlib.Omega.{arith}
 use lib.ListN.{getD}
 use Rattle.std.specs.declared.option.Option.the-variants.{Some}
@@ -11,7 +11,7 @@ use Rattle.calculus.specs.declared.syntax.Variable.{Variable}
 use Rattle.calculus.specs.declared.syntax.Variable.the-variants.{X, Y, Z}
 use Rattle.calculus.specs.declared.syntax.Leaf.the-variants.{True}
 use Rattle.calculus.specs.declared.syntax.Prefix.{Prefix}
-use Rattle.calculus.specs.Formula.{Formula, prefix, at-variable, Standing, even, closed-under}
+use Rattle.calculus.specs.Formula.{Formula, prefix, at-variable, even, closed-under}
 use Rattle.calculus.specs.Marks.{Means}
 use Rattle.calculus.specs.Pairs.{Same}
 use Rattle.formulas.proofs.Tables.{prefix-part}
@@ -30,7 +30,7 @@ use Rattle.marking.specs.Evaluated.{word-pair}
 use Rattle.marking.specs.Holding.{Only-states, Holds}
 use Rattle.marking.specs.Signs.{bound-by, start-pair}
 use Rattle.marking.specs.Standing.{Closed-at}
-use Rattle.marking.specs.Values.{with-value, value-at, values-of, Values-only, Evaluates-at}
+use Rattle.marking.specs.Values.{with-value, values-of, Values-only, Evaluates-at}
 use Rattle.marking.proofs.Binders.{node-direction, start-origin, is-binder, standings-in, closed-part, closed-body, lettered}
 
 -- which way the iteration at a node goes
@@ -86,14 +86,14 @@ body-means M f v u x w r is h =
     means-same M f (values-of (with-value v x w)) (at-variable (values-of v) x (word-pair w)) (word-pair r) (word-pair r) (with-same (states M) v x w) (same-refl (states M) (word-pair r))
     (subst (λ y. Evaluates-at M f y r) is h .means)
 
-module _ (M : Meaning) (ns : List Node) (i j : ℕ) (p : Prefix) (at : Operator p j ≡ getD ns i (Leaf True)) (closed : Closed-at ns i) where
+module _ (ns : List Node) (i j : ℕ) (p : Prefix) (at : Operator p j ≡ getD ns i (Leaf True)) (closed : Closed-at ns i) where
   pub part-closed : (j < i) × Closed-at ns j
   part-closed =
       let part = prefix-part ns i (closed .formula) (closed .made) p j (sym at) in
       let whole = subst (λ f. closed-under (closed .standings) f ≡ true) (part .3) (closed .closed) in
       (part .1, record { formula = part .0; made = part .2; standings = standings-in p (closed .standings); closed = closed-part p (part .0) (closed .standings) whole })
 
-  module _ (v : Values) (x : Variable) (binds : Some x ≡ bound-by p) where
+  module _ (M : Meaning) (v : Values) (x : Variable) (binds : Some x ≡ bound-by p) where
     body-closed : (f : Formula) → formula-at ns j ≡ Some f → closed-under (at-variable (closed .standings) x even) f ≡ true
     unfolding part-closed
     body-closed f made =

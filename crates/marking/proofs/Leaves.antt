@@ -12,7 +12,7 @@ use Rattle.frames.specs.Frames.{meaning-of}
 use Rattle.frames.specs.declared.frame.Frame.{Frame}
 use Rattle.logic.proofs.Pairs.{same-refl}
 use Rattle.sets.specs.Sets.{Set, has}
-use Rattle.systems.specs.Meaning.{Meaning, states}
+use Rattle.systems.specs.Meaning.{states}
 use Rattle.systems.specs.Words.{is-on, is-off}
 use Rattle.marking.specs.declared.values.Values.{Values}
 use Rattle.marking.specs.Holding.{Holds}

@@ -1,5 +1,5 @@
 -- The formula at a node, from those of its parts. Assumes nothing.
-use mathlib.Core.Path.{_≡_, refl, sym, ap, subst, _∙_}
+use mathlib.Core.Path.{_≡_, refl, sym, subst}
 use mathlib.Core.Bool.{true, false}
 use mathlib.Core.List.{List}
 use Prim.Native.Nat.{ℕ, _<_}
@@ -13,7 +13,7 @@ use Rattle.calculus.specs.declared.syntax.Leaf.the-variants.{True}
 use Rattle.calculus.specs.declared.syntax.Prefix.{Prefix}
 use Rattle.calculus.specs.declared.syntax.Prefix.the-variants.{Not, Diamond, Box, Least, Greatest}
 use Rattle.calculus.specs.declared.syntax.Variable.{Variable}
-use Rattle.calculus.specs.Formula.{Formula, prefix, binary, unbound, closed-under}
+use Rattle.calculus.specs.Formula.{Formula, prefix, unbound, closed-under}
 use Rattle.calculus.specs.Marks.{nothing}
 use Rattle.calculus.specs.Pairs.{leaf-pair, binary-pair}
 use Rattle.formulas.proofs.Tables.{leaf-part, prefix-part, fork-part}

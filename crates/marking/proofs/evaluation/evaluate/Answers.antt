@@ -1,4 +1,4 @@
-use mathlib.Core.Path.{_≡_, sym, ap, subst, _∙_}
+use mathlib.Core.Path.{_≡_, sym, subst}
 use Rattle.std.specs.declared.option.Option.the-variants.{Some}
 use Rattle.formulas.specs.Nodes.{formula-at}
 use Rattle.frames.specs.Frames.{meaning-of}
