@@ -15,7 +15,7 @@ impl Frame {
         if state >= self.sizes.states || action >= self.sizes.actions {
             return sets::empty();
         }
-        let row = self.grid.rows[state];
+        let row = &self.grid.rows[state];
         row.may[action]
     }
 
@@ -26,7 +26,7 @@ impl Frame {
         if state >= self.sizes.states || action >= self.sizes.actions {
             return sets::empty();
         }
-        let row = self.grid.rows[state];
+        let row = &self.grid.rows[state];
         row.must[action]
     }
 
