@@ -39,7 +39,7 @@ pub impl System for Frame as FrameSystem {
         if from >= self.sizes.states || action >= self.sizes.actions {
             return Kind::Absent;
         }
-        let row = self.grid.rows[from];
+        let row = &self.grid.rows[from];
         if sets::contains(row.must[action], to) {
             Kind::Certain
         } else if sets::contains(row.may[action], to) {

@@ -66,9 +66,7 @@ impl Grid {
         ensures on { λ _. ⌜ now (self .exit) .on ≡ now (self .entry) .on ⌝ }
         ensures off { λ _. ⌜ now (self .exit) .off ≡ now (self .entry) .off ⌝ }
     {
-        let mut row = self.rows[from];
-        row.set_move(action, to, kind);
-        self.rows[from] = row;
+        self.rows[from].set_move(action, to, kind);
     }
 
     pub(crate) fn set_light(&mut self, state: usize, lamp: usize, light: Light)
