@@ -17,9 +17,8 @@ use tables::MoveEntry;
 use tables::Table;
 
 // The draft becomes the fold of the controller by the map that the text describes, which the
-// controller refines. A refused text
-// leaves the draft as it is. The controller is written into the two lists, whose entries may hold
-// anything before.
+// controller refines. A refused text leaves the draft as it is. The controller is written into the
+// two lists, whose entries may hold anything before; a list of 2,048 entries is long enough.
 pub fn quotient(
     text: &[u8],
     moves: &mut [MoveEntry],
