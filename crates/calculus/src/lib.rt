@@ -1,5 +1,7 @@
 // Formulas of the modal mu-calculus, and what they mean in a system with optional and certain
 // moves. The meaning is a definition, in specs/: nothing here computes it.
+#![tactic(auto)]
+
 mod syntax;
 
 pub use syntax::{Binary, Leaf, Mark, Prefix, Variable};

@@ -1,4 +1,6 @@
 // Examples of cases: marks, what confirming and striking does to them, and refused formulas.
+#![tactic(auto)]
+
 #[cfg(test)]
 mod tests {
     use calculus::Mark;

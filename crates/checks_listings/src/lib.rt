@@ -1,4 +1,6 @@
 // Examples of listings: what is read, what is refused and at which line, and what is written.
+#![tactic(auto)]
+
 #[cfg(test)]
 mod tests {
     use frames::Draft;

@@ -1,4 +1,6 @@
 // Checks of tables, folds and quotients by examples.
+#![tactic(auto)]
+
 #[cfg(test)]
 mod entries;
 #[cfg(test)]

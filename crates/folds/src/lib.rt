@@ -1,4 +1,6 @@
 // Folds: a system with its states put together into classes, which is again a system.
+#![tactic(auto)]
+
 mod classes;
 mod fold;
 mod joins;

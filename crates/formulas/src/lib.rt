@@ -1,5 +1,7 @@
 // The reader of formulas: a text of at most 128 bytes becomes a closed formula, held as nodes each
 // of which names only earlier ones.
+#![tactic(auto)]
+
 mod checks;
 mod laws;
 mod node;

@@ -1,5 +1,7 @@
 // Frames: systems of at most as many states as a set can hold, kept as sets. A draft is a frame
 // that is being made.
+#![tactic(auto)]
+
 mod asks;
 mod builds;
 mod draft;

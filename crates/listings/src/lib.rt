@@ -1,4 +1,6 @@
 // Listings: how a frame or a table of states is written as lines of text, and read back.
+#![tactic(auto)]
+
 mod forms;
 mod parser;
 mod part;

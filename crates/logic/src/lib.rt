@@ -1,5 +1,7 @@
 // How refinement carries the marks of formulas from one system to another, proved once for all
 // systems. The theorems stand on the contracts of functions that do nothing.
+#![tactic(auto)]
+
 mod theorems;
 
 pub use theorems::{

@@ -1,5 +1,7 @@
 // The marking core: the necessary and the possible set of a sentence over a frame, as words. A set
 // is known by its members alone, through the calls of the crate `sets`.
+#![tactic(auto)]
+
 mod evaluation;
 mod marks;
 mod moves;

@@ -1,5 +1,7 @@
 // marks: reads the listing of a frame and then formulas, one to a line, and prints the mark of every
 // frame state by every formula, or the number of a refusal and its line.
+#![tactic(auto)]
+
 use cases::Case;
 use frames::{Draft, Frame};
 use listings::Rejection;

@@ -1,4 +1,6 @@
 // A frame's listing followed by formulas, one to a line, as something that takes lines.
+#![tactic(auto)]
+
 mod asks;
 mod phase;
 

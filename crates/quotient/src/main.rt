@@ -1,5 +1,7 @@
 // quotient: reads the listing of a controller and a map of its states to classes on standard input,
 // and prints the folded frame as a listing, or the number of a refusal and its line.
+#![tactic(auto)]
+
 use frames::Draft;
 use listings::Rejection;
 use std::io;

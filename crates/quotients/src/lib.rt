@@ -1,5 +1,7 @@
 // Quotients: a system and a map of its states to classes, read from one text and folded into a
 // frame.
+#![tactic(auto)]
+
 mod forms;
 mod map;
 mod naming;

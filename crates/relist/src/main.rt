@@ -1,5 +1,7 @@
 // relist: reads the listing of a frame on standard input and prints the same frame in its normal
 // order, or the number of a refusal and its line.
+#![tactic(auto)]
+
 use frames::Draft;
 use listings::Rejection;
 use std::io;

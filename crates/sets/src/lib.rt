@@ -1,5 +1,7 @@
 // Sets of small numbers, each held in one machine word: bit j stands for the number j. Only this
 // crate knows how a set is held; what it promises speaks of membership alone.
+#![tactic(auto)]
+
 ghost use Rattle.std.specs.Prelude.{◌≡◌, ℕ, true, false, not, ◌&&◌, ◌||◌, Decides, ◌==◌, nat_lt};
 ghost use Rattle.sets.specs.Sets.{has, width};
 

@@ -1,5 +1,7 @@
 // Systems whose moves are optional or certain, behind one interface, and the refusals that every
 // call of the project answers with.
+#![tactic(auto)]
+
 mod builder;
 mod kinds;
 mod refusal;

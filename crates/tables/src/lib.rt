@@ -1,4 +1,6 @@
 // Tables: systems of up to 256 states, written into lists of moves and lights that their owner lends.
+#![tactic(auto)]
+
 mod builds;
 mod entries;
 mod header;

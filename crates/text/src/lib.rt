@@ -1,5 +1,7 @@
 // Texts as slices of bytes: their lines, their parts up to a byte, and the numbers in them. What is
 // handed out is part of the caller's slice, and nothing is copied.
+#![tactic(auto)]
+
 mod equals;
 mod fields;
 mod lines;
