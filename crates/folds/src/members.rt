@@ -23,9 +23,9 @@ fn entering<S: System>(
     action: usize,
     class: usize,
 ) -> Entries
-    requires { states ≡ (meaning system.now).sizes.states }
-    ensures may { result.may ≡ enters possible (meaning system.now) classes.now.of from action class }
-    ensures must { result.must ≡ enters certain (meaning system.now) classes.now.of from action class }
+    requires { states ≡ (S.meaning system.now).sizes.states }
+    ensures may { result.may ≡ enters possible (S.meaning system.now) classes.now.of from action class }
+    ensures must { result.must ≡ enters certain (S.meaning system.now) classes.now.of from action class }
 {
     let mut may = false;
     let mut must = false;
@@ -49,8 +49,8 @@ pub(crate) fn kind_between<S: System>(
     action: usize,
     to: usize,
 ) -> Kind
-    requires { states ≡ (meaning system.now).sizes.states }
-    ensures { result ≡ fold_kind (meaning system.now) classes.now.of from action to }
+    requires { states ≡ (S.meaning system.now).sizes.states }
+    ensures { result ≡ fold_kind (S.meaning system.now) classes.now.of from action to }
 {
     let mut some = false;
     let mut every = true;
@@ -78,8 +78,8 @@ pub(crate) fn light_of<S: System>(
     class: usize,
     lamp: usize,
 ) -> Light
-    requires { states ≡ (meaning system.now).sizes.states }
-    ensures { result ≡ fold_light (meaning system.now) classes.now.of class lamp }
+    requires { states ≡ (S.meaning system.now).sizes.states }
+    ensures { result ≡ fold_light (S.meaning system.now) classes.now.of class lamp }
 {
     let mut members = false;
     let mut on = true;

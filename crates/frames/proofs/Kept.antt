@@ -7,18 +7,9 @@ use Rattle.systems.specs.declared.kinds.Sizes.{Sizes}
 use Rattle.systems.specs.declared.kinds.Kind.TheVariants.{Absent}
 use Rattle.systems.specs.declared.kinds.Light.TheVariants.{Unknown}
 use Rattle.frames.specs.Grids.{may_at, must_at, on_at, off_at, kind_of, light_of, frame_meaning}
+use Rattle.frames.specs.Laws.{grid_lawful}
 use Rattle.frames.specs.declared.grid.Grid.{Grid}
 use Rattle.frames.specs.declared.frame.Frame.{Frame}
-
-is_possible : (must may : Bool) → (must ≡ true → may ≡ true) → possible (kind_of must may) ≡ true → may ≡ true
-is_possible true may certain p = certain refl
-is_possible false true certain p = refl
-is_possible false false certain p = p
-
-is_known : {P : Type 0} (on off : Bool) → (on ≡ true → P) → (off ≡ true → P) → known (light_of on off) ≡ true → P
-is_known true off by-on by-off p = by-on refl
-is_known false true by-on by-off p = by-off refl
-is_known false false by-on by-off p = absurd (both_ways false refl p)
 
 not_possible : (must may : Bool) → (possible (kind_of must may) ≡ true → ⊥) → kind_of must may ≡ Absent
 not_possible true may never = absurd (never refl)
@@ -31,15 +22,7 @@ not_known false true never = absurd (never refl)
 not_known false false never = refl
 
 pub lawful : (f : Frame) → Lawful (frame_meaning f.sizes f.grid)
-lawful f = record {
-  few_states = omega (arith, f.few_states);
-  few_actions = f.few_actions;
-  few_lamps = f.few_lamps;
-  started = λ _. f.started;
-  without_states = λ none. absurd (omega (arith, f.some_states));
-  moves_within = λ s a t p. f.moves_within (s, a, t) (is_possible (must_at f.grid s a t) (may_at f.grid s a t) (f.certain_possible (s, a, t)) p);
-  lights_within = λ s l p. is_known (on_at f.grid s l) (off_at f.grid s l) (f.on_within (s, l)) (f.off_within (s, l)) p;
-}
+lawful f = grid_lawful f.sizes f.grid f.some_states f.few_states f.few_actions f.few_lamps f.started f.moves_within f.certain_possible f.on_within f.off_within
 
 -- beyond the sizes there is nothing
 pub no_move : (f : Frame) (s a t : ℕ) → move_within f.sizes s a t ≡ false → Absent ≡ kind_of (must_at f.grid s a t) (may_at f.grid s a t)

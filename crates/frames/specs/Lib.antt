@@ -2,3 +2,4 @@ pub mod Grids
 pub mod Frames
 pub mod Drafts
 pub mod Copies
+pub mod Laws

@@ -4,7 +4,7 @@ ghost use Rattle.std.specs.Prelude.{◌≡◌, ℕ, ◌<◌, ◌≤◌, true, fa
 ghost use Rattle.systems.specs.Meaning.{move_within, light_within};
 ghost use Rattle.sets.specs.Sets.{width};
 ghost use Rattle.frames.specs.Grids.{may_at, must_at, on_at, off_at, frame_meaning};
-ghost use Rattle.std.proofs.Common.{rules, arith};
+ghost use Rattle.frames.specs.Laws.{grid_lawful};
 
 use crate::grid::Grid;
 use systems::{Kind, Light, Sizes, System};
@@ -28,7 +28,7 @@ pub struct Frame {
 impl System for Frame {
     ghost meaning = { λ f. frame_meaning f.sizes f.grid };
 
-    ghost lawful = { first_of (Prim.search rules, Prim.grind (arith, Self.row.coded.inj)) };
+    ghost lawful = { λ f. grid_lawful f.sizes f.grid f.some_states f.few_states f.few_actions f.few_lamps f.started f.moves_within f.certain_possible f.on_within f.off_within };
 
     fn sizes(&self) -> Sizes {
         self.sizes

@@ -14,8 +14,8 @@ use systems::{Refusal, System};
 impl Draft {
     // The draft becomes a copy of the system.
     pub fn load<S: System>(&mut self, system: &S) -> Result<(), Refusal>
-        ensures answer { result ≡ load_answer width (meaning system.now) }
-        ensures after { draft_meaning self.new ≡ after result (meaning system.now) (draft_meaning self.old) }
+        ensures answer { result ≡ load_answer width (S.meaning system.now) }
+        ensures after { draft_meaning self.new ≡ after result (S.meaning system.now) (draft_meaning self.old) }
     {
         let sizes = system.sizes();
         if sizes.states == 0 || sizes.states > WIDTH {
@@ -31,10 +31,10 @@ impl Draft {
 
 // The moves from one state on one action.
 fn copy_moves_on<S: System>(frame: &mut Frame, system: &S, from: usize, action: usize)
-    requires sizes { frame.old.sizes ≡ (meaning system.now).sizes }
+    requires sizes { frame.old.sizes ≡ (S.meaning system.now).sizes }
     requires from { from < frame.old.sizes.states }
     requires action { action < frame.old.sizes.actions }
-    ensures { meaning_of frame.new ≡ moves_from (λ s a t. (s == from) && a == action && nat_lt t frame.old.sizes.states) (meaning system.now) (meaning_of frame.old) }
+    ensures { meaning_of frame.new ≡ moves_from (λ s a t. (s == from) && a == action && nat_lt t frame.old.sizes.states) (S.meaning system.now) (meaning_of frame.old) }
 {
     let states = frame.sizes().states;
     for to in 0..states {
@@ -44,9 +44,9 @@ fn copy_moves_on<S: System>(frame: &mut Frame, system: &S, from: usize, action: 
 
 // The moves from one state.
 fn copy_moves_of<S: System>(frame: &mut Frame, system: &S, from: usize)
-    requires sizes { frame.old.sizes ≡ (meaning system.now).sizes }
+    requires sizes { frame.old.sizes ≡ (S.meaning system.now).sizes }
     requires from { from < frame.old.sizes.states }
-    ensures { meaning_of frame.new ≡ moves_from (λ s a t. (s == from) && nat_lt a frame.old.sizes.actions && nat_lt t frame.old.sizes.states) (meaning system.now) (meaning_of frame.old) }
+    ensures { meaning_of frame.new ≡ moves_from (λ s a t. (s == from) && nat_lt a frame.old.sizes.actions && nat_lt t frame.old.sizes.states) (S.meaning system.now) (meaning_of frame.old) }
 {
     let actions = frame.sizes().actions;
     for action in 0..actions {
@@ -55,8 +55,8 @@ fn copy_moves_of<S: System>(frame: &mut Frame, system: &S, from: usize)
 }
 
 fn copy_moves<S: System>(frame: &mut Frame, system: &S)
-    requires { frame.old.sizes ≡ (meaning system.now).sizes }
-    ensures { meaning_of frame.new ≡ moves_from (move_within frame.old.sizes) (meaning system.now) (meaning_of frame.old) }
+    requires { frame.old.sizes ≡ (S.meaning system.now).sizes }
+    ensures { meaning_of frame.new ≡ moves_from (move_within frame.old.sizes) (S.meaning system.now) (meaning_of frame.old) }
 {
     let states = frame.sizes().states;
     for from in 0..states {
@@ -66,9 +66,9 @@ fn copy_moves<S: System>(frame: &mut Frame, system: &S)
 
 // The lights of one state.
 fn copy_lights_of<S: System>(frame: &mut Frame, system: &S, state: usize)
-    requires sizes { frame.old.sizes ≡ (meaning system.now).sizes }
+    requires sizes { frame.old.sizes ≡ (S.meaning system.now).sizes }
     requires state { state < frame.old.sizes.states }
-    ensures { meaning_of frame.new ≡ lights_from (λ s l. (s == state) && nat_lt l frame.old.sizes.lamps) (meaning system.now) (meaning_of frame.old) }
+    ensures { meaning_of frame.new ≡ lights_from (λ s l. (s == state) && nat_lt l frame.old.sizes.lamps) (S.meaning system.now) (meaning_of frame.old) }
 {
     let lamps = frame.sizes().lamps;
     for lamp in 0..lamps {
@@ -77,8 +77,8 @@ fn copy_lights_of<S: System>(frame: &mut Frame, system: &S, state: usize)
 }
 
 fn copy_lights<S: System>(frame: &mut Frame, system: &S)
-    requires { frame.old.sizes ≡ (meaning system.now).sizes }
-    ensures { meaning_of frame.new ≡ lights_from (light_within frame.old.sizes) (meaning system.now) (meaning_of frame.old) }
+    requires { frame.old.sizes ≡ (S.meaning system.now).sizes }
+    ensures { meaning_of frame.new ≡ lights_from (light_within frame.old.sizes) (S.meaning system.now) (meaning_of frame.old) }
 {
     let states = frame.sizes().states;
     for state in 0..states {

@@ -25,7 +25,7 @@ pub const LONGEST: usize = 32768;
 
 // Hands the lines of `text` to the parser until one is refused or the text ends.
 pub fn parse<P: LineParser>(parser: &mut P, text: &[u8]) -> Result<(), Rejection>
-    ensures { Run takes complete text.now parser.old parser.new result }
+    ensures { Run P.takes P.complete text.now parser.old parser.new result }
 {
     if text.len() > LONGEST {
         return Err(rejection(Refusal::Length, 0));

@@ -48,8 +48,8 @@ impl Stage {
 
 // Takes one line of a part, without its line feed, and answers the next stage.
 pub fn take_line<B: Builder>(builder: &mut B, stage: Stage, line: &[u8]) -> Result<Stage, Refusal>
-    ensures answer { result ≡ stage_after (step stage (making builder.old) line.now) }
-    ensures after { making builder.new ≡ made_after (step stage (making builder.old) line.now) (making builder.old) }
+    ensures answer { result ≡ stage_after (step stage (B.making builder.old) line.now) }
+    ensures after { B.making builder.new ≡ made_after (step stage (B.making builder.old) line.now) (B.making builder.old) }
 {
     match stage {
         Stage::SizesNames => {
@@ -79,8 +79,8 @@ pub fn take_line<B: Builder>(builder: &mut B, stage: Stage, line: &[u8]) -> Resu
 }
 
 fn take_sizes<B: Builder>(builder: &mut B, line: &[u8]) -> Result<Stage, Refusal>
-    ensures answer { result ≡ stage_after (sizes_step (making builder.old) (sizes_in line.now)) }
-    ensures after { making builder.new ≡ made_after (sizes_step (making builder.old) (sizes_in line.now)) (making builder.old) }
+    ensures answer { result ≡ stage_after (sizes_step (B.making builder.old) (sizes_in line.now)) }
+    ensures after { B.making builder.new ≡ made_after (sizes_step (B.making builder.old) (sizes_in line.now)) (B.making builder.old) }
 {
     match sizes_of(line) {
         None => Err(Refusal::Form),
@@ -92,8 +92,8 @@ fn take_sizes<B: Builder>(builder: &mut B, line: &[u8]) -> Result<Stage, Refusal
 }
 
 fn take_move<B: Builder>(builder: &mut B, line: &[u8]) -> Result<Stage, Refusal>
-    ensures answer { result ≡ stage_after (move_step (making builder.old) (move_in line.now)) }
-    ensures after { making builder.new ≡ made_after (move_step (making builder.old) (move_in line.now)) (making builder.old) }
+    ensures answer { result ≡ stage_after (move_step (B.making builder.old) (move_in line.now)) }
+    ensures after { B.making builder.new ≡ made_after (move_step (B.making builder.old) (move_in line.now)) (B.making builder.old) }
 {
     match move_of(line) {
         None => Err(Refusal::Form),
@@ -105,8 +105,8 @@ fn take_move<B: Builder>(builder: &mut B, line: &[u8]) -> Result<Stage, Refusal>
 }
 
 fn take_light<B: Builder>(builder: &mut B, line: &[u8]) -> Result<Stage, Refusal>
-    ensures answer { result ≡ stage_after (light_step (making builder.old) (light_in line.now)) }
-    ensures after { making builder.new ≡ made_after (light_step (making builder.old) (light_in line.now)) (making builder.old) }
+    ensures answer { result ≡ stage_after (light_step (B.making builder.old) (light_in line.now)) }
+    ensures after { B.making builder.new ≡ made_after (light_step (B.making builder.old) (light_in line.now)) (B.making builder.old) }
 {
     match light_of(line) {
         None => Err(Refusal::Form),

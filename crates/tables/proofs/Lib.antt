@@ -1,4 +1,3 @@
 pub mod Firsts
 pub mod Places
 pub mod Makings
-pub mod Laws

@@ -1,5 +1,6 @@
 // A system as it stands in lists of moves and lights, which are lent for reading.
 ghost use Rattle.tables.specs.Entries.{table_meaning};
+ghost use Rattle.tables.specs.Laws.{table_lawful};
 
 use crate::entries::{LightEntry, MoveEntry};
 use crate::header::Header;
@@ -15,6 +16,8 @@ pub struct Listed<'a> {
 
 impl System for Listed<'_> {
     ghost meaning = { λ t. table_meaning t.header.sizes t.moves.now t.header.drawn t.lights.now t.header.lit };
+
+    ghost lawful = { λ t. table_lawful t.header t.moves.now t.lights.now };
 
     fn sizes(&self) -> Sizes {
         self.header.sizes

@@ -4,8 +4,8 @@
 // hold when they come back.
 ghost use Rattle.std.specs.Prelude.{◌≡◌, slice_set};
 ghost use Rattle.systems.specs.Edits.{after};
-ghost use Rattle.systems.specs.Making.{sized, sized_answer, moved, moved_answer, is_full, lit as lit-up, lit_answer};
-ghost use Rattle.systems.specs.Words.{drawn as drawn-as, shown};
+ghost use Rattle.systems.specs.Making.{sized, sized_answer, moved, moved_answer, is_full, lit as lit_up, lit_answer};
+ghost use Rattle.systems.specs.Words.{drawn as drawn_as, shown};
 ghost use Rattle.tables.specs.Entries.{table_making};
 ghost use Rattle.tables.specs.Tables.{making_of, first_sizes, move_entry, light_entry};
 
@@ -74,7 +74,7 @@ impl<'a> Table<'a> {
         modality: Modality,
     ) -> Result<(), Refusal>
         ensures answer { result ≡ moved_answer (making_of self.old) from action to }
-        ensures after { making_of self.new ≡ after result (moved (making_of self.old) from action to (drawn-as modality)) (making_of self.old) }
+        ensures after { making_of self.new ≡ after result (moved (making_of self.old) from action to (drawn_as modality)) (making_of self.old) }
         ensures moves { self.new.moves.now ≡ after result (slice_set self.old.moves.now self.old.header.drawn (move_entry from action to modality)) self.old.moves.now }
         ensures lights { self.new.lights.now ≡ self.old.lights.now }
         ensures lent_moves { self.new.moves.ghost_name ≡ self.old.moves.ghost_name }
@@ -107,7 +107,7 @@ impl<'a> Table<'a> {
     // Turns an unknown lamp of a state on or off.
     pub fn light(&mut self, state: usize, lamp: usize, setting: Setting) -> Result<(), Refusal>
         ensures answer { result ≡ lit_answer (making_of self.old) state lamp }
-        ensures after { making_of self.new ≡ after result (lit-up (making_of self.old) state lamp (shown setting)) (making_of self.old) }
+        ensures after { making_of self.new ≡ after result (lit_up (making_of self.old) state lamp (shown setting)) (making_of self.old) }
         ensures moves { self.new.moves.now ≡ self.old.moves.now }
         ensures lights { self.new.lights.now ≡ after result (slice_set self.old.lights.now self.old.header.lit (light_entry state lamp setting)) self.old.lights.now }
         ensures lent_moves { self.new.moves.ghost_name ≡ self.old.moves.ghost_name }

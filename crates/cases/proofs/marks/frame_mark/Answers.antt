@@ -11,7 +11,7 @@ returns-then-state-sizes c = no_state (subst (λ (z : Sizes). z.states ≤ c.arg
 pub returns-in-Ok : goal.returns-in-Ok
 returns-in-Ok c =
     let within = subst (λ (z : Sizes). c.args.state < z.states) c.sizes.ensures c.if-state-sizes.false in
-    then_marked (meaning_of c.args.frame.now) c.args.state c.args.formula.now within c.in-Ok.ensures c.mark-at.result c.mark-at.ensures
+    then_marked (meaning_of c.args.frame.now) c.args.state c.args.formula.now within c.in-Ok.ensures c.mark_at.result c.mark_at.ensures
 
 pub returns-in-Err : goal.returns-in-Err
 returns-in-Err c =

@@ -8,7 +8,7 @@ use Rattle.folds.proofs.classes.each_below.Goals as goal
 pub loop-state-preserved : goal.loop-state-preserved
 loop-state-preserved c =
     let below : ℕ → Bool = λ s. ltb (class_of c.args.classes.now.of s) c.args.count in
-    all_more c.loop-state.state below c.loop-state.each (ltb c.class-of.result c.args.count) _ c.loop-state.invariant (ap (λ n. ltb n c.args.count) c.class-of.ensures) refl
+    all_more c.loop-state.state below c.loop-state.each (ltb c.class_of.result c.args.count) _ c.loop-state.invariant (ap (λ n. ltb n c.args.count) c.class_of.ensures) refl
 
 pub returns : goal.returns
 unfolding each_below

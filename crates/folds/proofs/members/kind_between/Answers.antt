@@ -4,7 +4,7 @@ use Rattle.folds.specs.Folds.{class_of, enters}
 use Rattle.folds.specs.Readings.{Member}
 use Rattle.folds.proofs.Turns.{some_more, some_skip, every_more, every_skip}
 use Rattle.folds.proofs.members.kind_between.Goals as goal
-use Rattle.folds.proofs.members.kind_between.Goals.{then-class-of-from, else-class-of-from}
+use Rattle.folds.proofs.members.kind_between.Goals.{then-class_of-from, else-class_of-from}
 
 pub loop-state-preserved : goal.loop-state-preserved
 loop-state-preserved g c =
@@ -13,13 +13,13 @@ loop-state-preserved g c =
     let class = c.args.from in
     let s = c.loop-state.state in
     let old = c.loop-state in
-    let new = c.if-class-of-from in
+    let new = c.if-class_of-from in
     let may : ℕ → Bool = λ k. enters possible M cs k c.args.action c.args.to in
     let must : ℕ → Bool = λ k. enters certain M cs k c.args.action c.args.to in
-    elim c.if-class-of-from.branch [
-      | then-class-of-from w ↦ let m : Member M cs class s = record { state = omega (arith, c.requires); class = sym c.class-of.ensures ∙ w.if-class-of-from.true } in
+    elim c.if-class_of-from.branch [
+      | then-class_of-from w ↦ let m : Member M cs class s = record { state = omega (arith, c.requires); class = sym c.class_of.ensures ∙ w.if-class_of-from.true } in
           let found = w.entering-found in
           (some_more M cs class s m old.some found.result.may new.some may old.invariant.0 found.ensures.may w.some-is, every_more M cs class s m old.every found.result.must new.every must old.invariant.1 found.ensures.must w.every-is)
-      | else-class-of-from w ↦ let other : class_of cs s ≡ class → ⊥ = λ e. w.if-class-of-from.false (c.class-of.ensures ∙ e) in
+      | else-class_of-from w ↦ let other : class_of cs s ≡ class → ⊥ = λ e. w.if-class_of-from.false (c.class_of.ensures ∙ e) in
           (some_skip M cs class s other old.some new.some may old.invariant.0 w.some-is, every_skip M cs class s other old.every new.every must old.invariant.1 w.every-is)
     ]

@@ -7,7 +7,7 @@ use Rattle.folds.specs.Readings.{Member}
 use Rattle.folds.proofs.Turns.{some_more, some_skip, every_more, every_skip, light_found}
 use Rattle.folds.specs.Words.{off_chosen, unknown_chosen}
 use Rattle.folds.proofs.members.light_of.Goals as goal
-use Rattle.folds.proofs.members.light_of.Goals.{then-class-of-class, else-class-of-class}
+use Rattle.folds.proofs.members.light_of.Goals.{then-class_of-class, else-class_of-class}
 
 pub loop-state-preserved : goal.loop-state-preserved
 loop-state-preserved g c =
@@ -16,14 +16,14 @@ loop-state-preserved g c =
     let class = c.args.class in
     let s = c.loop-state.state in
     let old = c.loop-state in
-    let new = c.if-class-of-class in
+    let new = c.if-class_of-class in
     let on : ℕ → Bool = λ k. is_on (M.light k c.args.lamp) in
     let off : ℕ → Bool = λ k. is_off (M.light k c.args.lamp) in
-    elim c.if-class-of-class.branch [
-      | then-class-of-class w ↦ let m : Member M cs class s = record { state = omega (arith, c.requires); class = sym c.class-of.ensures ∙ w.if-class-of-class.true } in
-          (some_more M cs class s m old.members true new.members (λ _. true) old.invariant.0 refl (w.members-is ∙ or_comm true old.members), every_more M cs class s m old.on w.is-on-on.result new.on on old.invariant.1 (w.is-on-on.ensures ∙ ap is_on w.light-light.ensures) w.on_is, every_more M cs class s m old.off w.is-off-off.result new.off off old.invariant.2 (w.is-off-off.ensures ∙ ap is_off w.light-light.ensures) w.off_is)
-      | else-class-of-class w ↦ let other : class_of cs s ≡ class → ⊥ = λ e. w.if-class-of-class.false (c.class-of.ensures ∙ e) in
-          (some_skip M cs class s other old.members new.members (λ _. true) old.invariant.0 w.members-is, every_skip M cs class s other old.on new.on on old.invariant.1 w.on_is, every_skip M cs class s other old.off new.off off old.invariant.2 w.off_is)
+    elim c.if-class_of-class.branch [
+      | then-class_of-class w ↦ let m : Member M cs class s = record { state = omega (arith, c.requires); class = sym c.class_of.ensures ∙ w.if-class_of-class.true } in
+          (some_more M cs class s m old.members true new.members (λ _. true) old.invariant.0 refl (w.members-is ∙ or_comm true old.members), every_more M cs class s m old.on w.is_on-on.result new.on on old.invariant.1 (w.is_on-on.ensures ∙ ap is_on w.light-light.ensures) w.on-is, every_more M cs class s m old.off w.is_off-off.result new.off off old.invariant.2 (w.is_off-off.ensures ∙ ap is_off w.light-light.ensures) w.off-is)
+      | else-class_of-class w ↦ let other : class_of cs s ≡ class → ⊥ = λ e. w.if-class_of-class.false (c.class_of.ensures ∙ e) in
+          (some_skip M cs class s other old.members new.members (λ _. true) old.invariant.0 w.members-is, every_skip M cs class s other old.on new.on on old.invariant.1 w.on-is, every_skip M cs class s other old.off new.off off old.invariant.2 w.off-is)
     ]
 
 pub returns-then-off : goal.returns-then-off

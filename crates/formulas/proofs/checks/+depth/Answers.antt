@@ -9,8 +9,8 @@ depth-inner-requires t c =
     let part = prefix_formed c.args.nodes.now c.args.at c.in-Prefix.p c.in-Prefix.body c.requires c.in-Prefix.ensures in
     (omega arith, part.1)
 
-pub overflow-add-result : goal.overflow-add-result
-overflow-add-result t c =
+pub overflow_add-result : goal.overflow_add-result
+overflow_add-result t c =
     let part = prefix_formed c.args.nodes.now c.args.at c.in-Prefix.p c.in-Prefix.body c.requires c.in-Prefix.ensures in
     let low = c.depth-inner.ensures.small in
     search rules
@@ -25,21 +25,21 @@ depth-requires-in-Binary t c =
     let part = fork_formed c.args.nodes.now c.args.at _ c.in-Binary.left c.in-Binary.right c.requires c.in-Binary.ensures in
     (omega arith, part.3)
 
-pub returns-then-is-binder : goal.returns-then-is-binder
-returns-then-is-binder t c =
+pub returns-then-is_binder : goal.returns-then-is_binder
+returns-then-is_binder t c =
     let part = prefix_formed c.args.nodes.now c.args.at c.in-Prefix.p c.in-Prefix.body c.requires c.in-Prefix.ensures in
     let low = c.depth-inner.ensures.small in
     record {
-      value = over_prefix c.args.nodes.now c.args.at nesting c.in-Prefix.p c.in-Prefix.body c.depth-inner.result nesting (λ n. n + 1) c.in-Prefix.ensures c.depth-inner.ensures.value (λ g. nesting_prefix c.in-Prefix.p g ∙ ap (λ b. cond b (suc (nesting g)) (nesting g)) (sym c.if-is-binder.ensures) ∙ sym (add-one (nesting g)));
+      value = over_prefix c.args.nodes.now c.args.at nesting c.in-Prefix.p c.in-Prefix.body c.depth-inner.result nesting (λ n. n + 1) c.in-Prefix.ensures c.depth-inner.ensures.value (λ g. nesting_prefix c.in-Prefix.p g ∙ ap (λ b. cond b (suc (nesting g)) (nesting g)) (sym c.if-is_binder.ensures) ∙ sym (add-one (nesting g)));
       small = omega arith;
     }
 
-pub returns-else-is-binder : goal.returns-else-is-binder
-returns-else-is-binder t c =
+pub returns-else-is_binder : goal.returns-else-is_binder
+returns-else-is_binder t c =
     let part = prefix_formed c.args.nodes.now c.args.at c.in-Prefix.p c.in-Prefix.body c.requires c.in-Prefix.ensures in
     let low = c.depth-inner.ensures.small in
     record {
-      value = over_prefix c.args.nodes.now c.args.at nesting c.in-Prefix.p c.in-Prefix.body c.depth-inner.result nesting (λ n. n) c.in-Prefix.ensures c.depth-inner.ensures.value (λ g. nesting_prefix c.in-Prefix.p g ∙ ap (λ b. cond b (suc (nesting g)) (nesting g)) (sym c.if-is-binder.ensures));
+      value = over_prefix c.args.nodes.now c.args.at nesting c.in-Prefix.p c.in-Prefix.body c.depth-inner.result nesting (λ n. n) c.in-Prefix.ensures c.depth-inner.ensures.value (λ g. nesting_prefix c.in-Prefix.p g ∙ ap (λ b. cond b (suc (nesting g)) (nesting g)) (sym c.if-is_binder.ensures));
       small = omega arith;
     }
 

@@ -19,10 +19,10 @@ lettered-requires-then-lettered t c =
     let part = fork_formed c.args.nodes.now c.args.at _ c.in-Binary.left c.in-Binary.right c.requires c.in-Binary.ensures in
     (omega arith, part.3)
 
-pub returns-then-prefix-within : goal.returns-then-prefix-within
-returns-then-prefix-within t c =
+pub returns-then-prefix_within : goal.returns-then-prefix_within
+returns-then-prefix_within t c =
     over_prefix c.args.nodes.now c.args.at (within_letters c.args.actions c.args.lamps) c.in-Prefix.p c.in-Prefix.body c.lettered.result (within_letters c.args.actions c.args.lamps) (λ b. b) c.in-Prefix.ensures c.lettered.ensures
-    (λ g. within_prefix _ c.args.lamps c.in-Prefix.p g ∙ ap (λ b. b && within_letters c.args.actions c.args.lamps g) (sym c.if-prefix-within.ensures))
+    (λ g. within_prefix _ c.args.lamps c.in-Prefix.p g ∙ ap (λ b. b && within_letters c.args.actions c.args.lamps g) (sym c.if-prefix_within.ensures))
 
 pub returns-then-lettered : goal.returns-then-lettered
 returns-then-lettered t c =

@@ -12,6 +12,6 @@ loop-state-preserved g c =
     let M = meaning_of c.loop-state.frame in
     let state = c.loop-state.state in
     let k = c.args.frame.now.sizes.lamps in
-    next_lights N (meaning_of c.args.frame.now) M (meaning_of c.copy-lights-of.new.frame) (λ s l. ltb s state && ltb l k) (λ s l. eqb s state && ltb l k) (λ s l. ltb s (state + 1) && ltb l k) c.loop-state.invariant
-    (c.copy-lights-of.ensures ∙ ap (λ (n : ℕ). lights_from (λ s l. eqb s state && ltb l n) N M) (ap lamps c.loop-state.invariant))
+    next_lights N (meaning_of c.args.frame.now) M (meaning_of c.copy_lights_of.new.frame) (λ s l. ltb s state && ltb l k) (λ s l. eqb s state && ltb l k) (λ s l. ltb s (state + 1) && ltb l k) c.loop-state.invariant
+    (c.copy_lights_of.ensures ∙ ap (λ (n : ℕ). lights_from (λ s l. eqb s state && ltb l n) N M) (ap lamps c.loop-state.invariant))
     (λ s l. grind (arith, nat_tests))

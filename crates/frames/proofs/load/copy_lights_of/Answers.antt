@@ -9,4 +9,4 @@ pub loop-lamp-preserved : goal.loop-lamp-preserved
 loop-lamp-preserved g c =
     let state = c.args.state in
     let lamp = c.loop-lamp.lamp in
-    next_light (g.S.System.meaning c.args.system.now) (meaning_of c.args.frame.now) (meaning_of c.loop-lamp.frame) (meaning_of c.set-light.new.self) (λ s l. eqb s state && ltb l lamp) (λ s l. eqb s state && ltb l (lamp + 1)) state lamp c.light.result c.loop-lamp.invariant c.requires.state (omega (arith, ap (λ (z : Sizes). z.lamps) c.sizes-lamps.ensures)) c.light.ensures c.set-light.ensures (λ s l. grind (arith, nat_tests))
+    next_light (g.S.System.meaning c.args.system.now) (meaning_of c.args.frame.now) (meaning_of c.loop-lamp.frame) (meaning_of c.set_light.new.self) (λ s l. eqb s state && ltb l lamp) (λ s l. eqb s state && ltb l (lamp + 1)) state lamp c.light.result c.loop-lamp.invariant c.requires.state (omega (arith, ap (λ (z : Sizes). z.lamps) c.sizes-lamps.ensures)) c.light.ensures c.set_light.ensures (λ s l. grind (arith, nat_tests))

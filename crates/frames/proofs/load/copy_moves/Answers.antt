@@ -13,6 +13,6 @@ loop-from-preserved g c =
     let M = meaning_of c.loop-from.frame in
     let from = c.loop-from.from in
     let z = c.args.frame.now.sizes in
-    next_moves N (meaning_of c.args.frame.now) M (meaning_of c.copy-moves-of.new.frame) (λ s a t. ltb s from && ltb a z.actions && ltb t z.states) (λ s a t. eqb s from && ltb a z.actions && ltb t z.states) (λ s a t. ltb s (from + 1) && ltb a z.actions && ltb t z.states) c.loop-from.invariant
-    (c.copy-moves-of.ensures ∙ ap (λ (y : Sizes). moves_from (λ s a t. eqb s from && ltb a y.actions && ltb t y.states) N M) (ap (λ (X : Meaning). X.sizes) c.loop-from.invariant))
+    next_moves N (meaning_of c.args.frame.now) M (meaning_of c.copy_moves_of.new.frame) (λ s a t. ltb s from && ltb a z.actions && ltb t z.states) (λ s a t. eqb s from && ltb a z.actions && ltb t z.states) (λ s a t. ltb s (from + 1) && ltb a z.actions && ltb t z.states) c.loop-from.invariant
+    (c.copy_moves_of.ensures ∙ ap (λ (y : Sizes). moves_from (λ s a t. eqb s from && ltb a y.actions && ltb t y.states) N M) (ap (λ (X : Meaning). X.sizes) c.loop-from.invariant))
     (λ s a t. grind (arith, nat_tests))

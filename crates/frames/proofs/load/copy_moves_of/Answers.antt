@@ -13,6 +13,6 @@ loop-action-preserved g c =
     let from = c.args.from in
     let action = c.loop-action.action in
     let n = c.args.frame.now.sizes.states in
-    next_moves N (meaning_of c.args.frame.now) M (meaning_of c.copy-moves-on.new.frame) (λ s a t. eqb s from && ltb a action && ltb t n) (λ s a t. eqb s from && eqb a action && ltb t n) (λ s a t. eqb s from && ltb a (action + 1) && ltb t n) c.loop-action.invariant
-    (c.copy-moves-on.ensures ∙ ap (λ (k : ℕ). moves_from (λ s a t. eqb s from && eqb a action && ltb t k) N M) (ap states c.loop-action.invariant))
+    next_moves N (meaning_of c.args.frame.now) M (meaning_of c.copy_moves_on.new.frame) (λ s a t. eqb s from && ltb a action && ltb t n) (λ s a t. eqb s from && eqb a action && ltb t n) (λ s a t. eqb s from && ltb a (action + 1) && ltb t n) c.loop-action.invariant
+    (c.copy_moves_on.ensures ∙ ap (λ (k : ℕ). moves_from (λ s a t. eqb s from && eqb a action && ltb t k) N M) (ap states c.loop-action.invariant))
     (λ s a t. grind (arith, nat_tests))

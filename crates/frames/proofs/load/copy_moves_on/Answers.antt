@@ -10,4 +10,4 @@ loop-to-preserved g c =
     let from = c.args.from in
     let action = c.args.action in
     let to = c.loop-to.to in
-    next_move (g.S.System.meaning c.args.system.now) (meaning_of c.args.frame.now) (meaning_of c.loop-to.frame) (meaning_of c.set-move.new.self) (λ s a t. eqb s from && eqb a action && ltb t to) (λ s a t. eqb s from && eqb a action && ltb t (to + 1)) from action to c.kind.result c.loop-to.invariant c.requires.from c.requires.action (omega (arith, ap (λ (z : Sizes). z.states) c.sizes-states.ensures)) c.kind.ensures c.set-move.ensures (λ s a t. grind (arith, nat_tests))
+    next_move (g.S.System.meaning c.args.system.now) (meaning_of c.args.frame.now) (meaning_of c.loop-to.frame) (meaning_of c.set_move.new.self) (λ s a t. eqb s from && eqb a action && ltb t to) (λ s a t. eqb s from && eqb a action && ltb t (to + 1)) from action to c.kind.result c.loop-to.invariant c.requires.from c.requires.action (omega (arith, ap (λ (z : Sizes). z.states) c.sizes-states.ensures)) c.kind.ensures c.set_move.ensures (λ s a t. grind (arith, nat_tests))

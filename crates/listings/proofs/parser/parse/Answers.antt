@@ -21,18 +21,18 @@ pub loop-at-preserved : goal.loop-at-preserved
 loop-at-preserved g c = (
   omega arith,
   omega arith,
-  λ q v rest. c.loop-at.invariant.2 q v (one_more g.P.LineParser.takes g.P.LineParser.complete c.args.text.now c.loop-at.at c.find-end.result c.loop-at.number c.loop-at-test.true c.find-end.ensures c.loop-at.parser c.take.new.self q v c.if-end-text.false c.in-default.ensures rest),
+  λ q v rest. c.loop-at.invariant.2 q v (one_more g.P.LineParser.takes g.P.LineParser.complete c.args.text.now c.loop-at.at c.find-end.result c.loop-at.number c.loop-at-test.true c.find-end.ensures c.loop-at.parser c.take.new.self q v c.if-end-text.false c.in_default.ensures rest),
 )
 
 pub returns-in-Err : goal.returns-in-Err
 returns-in-Err g c =
     judged c.if-text-gt-LONGEST.false (c.loop-at.invariant.2 c.take.new.self _ (stopped g.P.LineParser.takes g.P.LineParser.complete c.args.text.now c.loop-at.at c.find-end.result c.loop-at.number c.loop-at-test.true c.find-end.ensures c.loop-at.parser c.take.new.self c.in-Err.e c.if-end-text.false c.in-Err.ensures))
 
-pub returns-then-is-complete : goal.returns-then-is-complete
-returns-then-is-complete g c =
-    judged c.if-text-gt-LONGEST.false (c.loop-at.invariant.2 c.loop-at.parser _ (at_end g.P.LineParser.takes g.P.LineParser.complete c.args.text.now c.loop-at.at c.loop-at.number c.loop-at.parser c.loop-at-test.false (sym c.if-is-complete.ensures)))
+pub returns-then-is_complete : goal.returns-then-is_complete
+returns-then-is_complete g c =
+    judged c.if-text-gt-LONGEST.false (c.loop-at.invariant.2 c.loop-at.parser _ (at_end g.P.LineParser.takes g.P.LineParser.complete c.args.text.now c.loop-at.at c.loop-at.number c.loop-at.parser c.loop-at-test.false (sym c.if-is_complete.ensures)))
 
-pub returns-else-is-complete : goal.returns-else-is-complete
-returns-else-is-complete g c =
+pub returns-else-is_complete : goal.returns-else-is_complete
+returns-else-is_complete g c =
     let ran = Run g.P.LineParser.takes g.P.LineParser.complete c.args.text.now c.args.parser.now c.loop-at.parser in
-    subst (λ e. ran (Err e)) (sym c.rejection-else-is-complete.ensures) (judged c.if-text-gt-LONGEST.false (c.loop-at.invariant.2 c.loop-at.parser _ (too_early g.P.LineParser.takes g.P.LineParser.complete c.args.text.now c.loop-at.at c.loop-at.number c.loop-at.parser c.loop-at-test.false (sym c.if-is-complete.ensures))))
+    subst (λ e. ran (Err e)) (sym c.rejection-else-is_complete.ensures) (judged c.if-text-gt-LONGEST.false (c.loop-at.invariant.2 c.loop-at.parser _ (too_early g.P.LineParser.takes g.P.LineParser.complete c.args.text.now c.loop-at.at c.loop-at.number c.loop-at.parser c.loop-at-test.false (sym c.if-is_complete.ensures))))

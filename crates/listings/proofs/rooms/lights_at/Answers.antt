@@ -9,4 +9,4 @@ pub loop-lamp-preserved : goal.loop-lamp-preserved
 loop-lamp-preserved c =
     let M = meaning_of c.args.frame.now in
     let i = c.loop-lamp.lamp in
-    (omega (arith, c.one-if-count.ensures.bound), ap₂ ◌+◌ c.loop-lamp.invariant.1 (c.one-if-count.ensures.value ∙ ap one_if (c.is-known.ensures ∙ ap known c.light.ensures)) ∙ sym (sum_more i (λ x. one_if (known (M.light c.args.state x)))))
+    (omega (arith, c.one_if-count.ensures.bound), ap₂ ◌+◌ c.loop-lamp.invariant.1 (c.one_if-count.ensures.value ∙ ap one_if (c.is_known.ensures ∙ ap known c.light.ensures)) ∙ sym (sum_more i (λ x. one_if (known (M.light c.args.state x)))))

@@ -8,4 +8,4 @@ pub loop-state-preserved : goal.loop-state-preserved
 loop-state-preserved c =
     let M = meaning_of c.args.frame.now in
     let i = c.loop-state.state in
-    (omega (arith, c.lights-at-count.ensures.bound), ap₂ ◌+◌ c.loop-state.invariant.1 c.lights-at-count.ensures.value ∙ sym (sum_more i (lights_of M)))
+    (omega (arith, c.lights_at-count.ensures.bound), ap₂ ◌+◌ c.loop-state.invariant.1 c.lights_at-count.ensures.value ∙ sym (sum_more i (lights_of M)))

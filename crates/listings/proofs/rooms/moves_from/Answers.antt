@@ -9,4 +9,4 @@ pub loop-action-preserved : goal.loop-action-preserved
 loop-action-preserved c =
     let M = meaning_of c.args.frame.now in
     let i = c.loop-action.action in
-    (omega (arith, c.moves-on-count.ensures.bound), ap₂ ◌+◌ c.loop-action.invariant.1 c.moves-on-count.ensures.value ∙ sym (sum_more i (λ a. sum_below M.sizes.states (λ t. one_if (possible (M.kind c.args.from a t))))))
+    (omega (arith, c.moves_on-count.ensures.bound), ap₂ ◌+◌ c.loop-action.invariant.1 c.moves_on-count.ensures.value ∙ sym (sum_more i (λ a. sum_below M.sizes.states (λ t. one_if (possible (M.kind c.args.from a t))))))

@@ -8,4 +8,4 @@ pub loop-from-preserved : goal.loop-from-preserved
 loop-from-preserved c =
     let M = meaning_of c.args.frame.now in
     let i = c.loop-from.from in
-    (omega (arith, c.moves-from-count.ensures.bound), ap₂ ◌+◌ c.loop-from.invariant.1 c.moves-from-count.ensures.value ∙ sym (sum_more i (moves_of M)))
+    (omega (arith, c.moves_from-count.ensures.bound), ap₂ ◌+◌ c.loop-from.invariant.1 c.moves_from-count.ensures.value ∙ sym (sum_more i (moves_of M)))

@@ -9,4 +9,4 @@ pub loop-to-preserved : goal.loop-to-preserved
 loop-to-preserved c =
     let M = meaning_of c.args.frame.now in
     let i = c.loop-to.to in
-    (omega (arith, c.one-if-count.ensures.bound), ap₂ ◌+◌ c.loop-to.invariant.1 (c.one-if-count.ensures.value ∙ ap one_if (c.is_possible.ensures ∙ ap possible c.kind.ensures)) ∙ sym (sum_more i (λ t. one_if (possible (M.kind c.args.from c.args.action t)))))
+    (omega (arith, c.one_if-count.ensures.bound), ap₂ ◌+◌ c.loop-to.invariant.1 (c.one_if-count.ensures.value ∙ ap one_if (c.is_possible.ensures ∙ ap possible c.kind.ensures)) ∙ sym (sum_more i (λ t. one_if (possible (M.kind c.args.from c.args.action t)))))

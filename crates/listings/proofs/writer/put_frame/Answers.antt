@@ -37,15 +37,15 @@ module _ (M : Meaning) (old : List ℕ) (room : 0 + length (frame_text M) ≤ le
   lights_named : (b b' : List ℕ) (p p' : ℕ) → Going old 0 (frame_text M) (after_moves M) b p → Wrote b p (heading lights_names) b' p' → Going old 0 (frame_text M) (lights_text M) b' p'
   lights_named b b' p p' g w = piece_on old 0 (frame_text M) room (heading lights_names) (lights_text M) b b' p p' g w
 
-pub put-moves-at-requires : goal.put-moves-at-requires
-put-moves-at-requires c =
+pub put_moves-at-requires : goal.put_moves-at-requires
+put_moves-at-requires c =
     let M = meaning_of c.args.frame.now in
     let old = c.args.buffer.now in
     let room : 0 + length (frame_text M) ≤ length old = omega (arith, c.requires) in
     let one = named M old room c.put-at.new.buffer c.put-at.result c.put-at.ensures in
-    let sizes = subst (λ (z : Sizes). Wrote c.put-at.new.buffer c.put-at.result (heading (sizes_text z)) c.put-sizes-at.new.buffer c.put-sizes-at.result) c.sizes.ensures c.put-sizes-at.ensures in
-    let two = sized M old room c.put-at.new.buffer c.put-sizes-at.new.buffer c.put-at.result c.put-sizes-at.result one sizes in
-    let three = moves_named M old room c.put-sizes-at.new.buffer c.put-at-2.new.buffer c.put-sizes-at.result c.put-at-2.result two c.put-at-2.ensures in
+    let sizes = subst (λ (z : Sizes). Wrote c.put-at.new.buffer c.put-at.result (heading (sizes_text z)) c.put_sizes-at.new.buffer c.put_sizes-at.result) c.sizes.ensures c.put_sizes-at.ensures in
+    let two = sized M old room c.put-at.new.buffer c.put_sizes-at.new.buffer c.put-at.result c.put_sizes-at.result one sizes in
+    let three = moves_named M old room c.put_sizes-at.new.buffer c.put-at-2.new.buffer c.put_sizes-at.result c.put-at-2.result two c.put-at-2.ensures in
     room_left old 0 (frame_text M) room (moves_text M) (after_moves M) c.put-at-2.new.buffer c.put-at-2.result three
 
 pub put-at-requires-3 : goal.put-at-requires-3
@@ -54,23 +54,23 @@ put-at-requires-3 c =
     let old = c.args.buffer.now in
     let room : 0 + length (frame_text M) ≤ length old = omega (arith, c.requires) in
     let one = named M old room c.put-at.new.buffer c.put-at.result c.put-at.ensures in
-    let sizes = subst (λ (z : Sizes). Wrote c.put-at.new.buffer c.put-at.result (heading (sizes_text z)) c.put-sizes-at.new.buffer c.put-sizes-at.result) c.sizes.ensures c.put-sizes-at.ensures in
-    let two = sized M old room c.put-at.new.buffer c.put-sizes-at.new.buffer c.put-at.result c.put-sizes-at.result one sizes in
-    let three = moves_named M old room c.put-sizes-at.new.buffer c.put-at-2.new.buffer c.put-sizes-at.result c.put-at-2.result two c.put-at-2.ensures in
-    let four = moved M old room c.put-at-2.new.buffer c.put-moves-at.new.buffer c.put-at-2.result c.put-moves-at.result three c.put-moves-at.ensures in
-    room_left old 0 (frame_text M) room (heading lights_names) (lights_text M) c.put-moves-at.new.buffer c.put-moves-at.result four
+    let sizes = subst (λ (z : Sizes). Wrote c.put-at.new.buffer c.put-at.result (heading (sizes_text z)) c.put_sizes-at.new.buffer c.put_sizes-at.result) c.sizes.ensures c.put_sizes-at.ensures in
+    let two = sized M old room c.put-at.new.buffer c.put_sizes-at.new.buffer c.put-at.result c.put_sizes-at.result one sizes in
+    let three = moves_named M old room c.put_sizes-at.new.buffer c.put-at-2.new.buffer c.put_sizes-at.result c.put-at-2.result two c.put-at-2.ensures in
+    let four = moved M old room c.put-at-2.new.buffer c.put_moves-at.new.buffer c.put-at-2.result c.put_moves-at.result three c.put_moves-at.ensures in
+    room_left old 0 (frame_text M) room (heading lights_names) (lights_text M) c.put_moves-at.new.buffer c.put_moves-at.result four
 
-pub put-lights-requires : goal.put-lights-requires
-put-lights-requires c =
+pub put_lights-requires : goal.put_lights-requires
+put_lights-requires c =
     let M = meaning_of c.args.frame.now in
     let old = c.args.buffer.now in
     let room : 0 + length (frame_text M) ≤ length old = omega (arith, c.requires) in
     let one = named M old room c.put-at.new.buffer c.put-at.result c.put-at.ensures in
-    let sizes = subst (λ (z : Sizes). Wrote c.put-at.new.buffer c.put-at.result (heading (sizes_text z)) c.put-sizes-at.new.buffer c.put-sizes-at.result) c.sizes.ensures c.put-sizes-at.ensures in
-    let two = sized M old room c.put-at.new.buffer c.put-sizes-at.new.buffer c.put-at.result c.put-sizes-at.result one sizes in
-    let three = moves_named M old room c.put-sizes-at.new.buffer c.put-at-2.new.buffer c.put-sizes-at.result c.put-at-2.result two c.put-at-2.ensures in
-    let four = moved M old room c.put-at-2.new.buffer c.put-moves-at.new.buffer c.put-at-2.result c.put-moves-at.result three c.put-moves-at.ensures in
-    let five = lights_named M old room c.put-moves-at.new.buffer c.put-at-3.new.buffer c.put-moves-at.result c.put-at-3.result four c.put-at-3.ensures in
+    let sizes = subst (λ (z : Sizes). Wrote c.put-at.new.buffer c.put-at.result (heading (sizes_text z)) c.put_sizes-at.new.buffer c.put_sizes-at.result) c.sizes.ensures c.put_sizes-at.ensures in
+    let two = sized M old room c.put-at.new.buffer c.put_sizes-at.new.buffer c.put-at.result c.put_sizes-at.result one sizes in
+    let three = moves_named M old room c.put_sizes-at.new.buffer c.put-at-2.new.buffer c.put_sizes-at.result c.put-at-2.result two c.put-at-2.ensures in
+    let four = moved M old room c.put-at-2.new.buffer c.put_moves-at.new.buffer c.put-at-2.result c.put_moves-at.result three c.put_moves-at.ensures in
+    let five = lights_named M old room c.put_moves-at.new.buffer c.put-at-3.new.buffer c.put_moves-at.result c.put-at-3.result four c.put-at-3.ensures in
     last_room old 0 (frame_text M) room (lights_text M) c.put-at-3.new.buffer c.put-at-3.result five
 
 pub returns : goal.returns
@@ -79,9 +79,9 @@ returns c =
     let old = c.args.buffer.now in
     let room : 0 + length (frame_text M) ≤ length old = omega (arith, c.requires) in
     let one = named M old room c.put-at.new.buffer c.put-at.result c.put-at.ensures in
-    let sizes = subst (λ (z : Sizes). Wrote c.put-at.new.buffer c.put-at.result (heading (sizes_text z)) c.put-sizes-at.new.buffer c.put-sizes-at.result) c.sizes.ensures c.put-sizes-at.ensures in
-    let two = sized M old room c.put-at.new.buffer c.put-sizes-at.new.buffer c.put-at.result c.put-sizes-at.result one sizes in
-    let three = moves_named M old room c.put-sizes-at.new.buffer c.put-at-2.new.buffer c.put-sizes-at.result c.put-at-2.result two c.put-at-2.ensures in
-    let four = moved M old room c.put-at-2.new.buffer c.put-moves-at.new.buffer c.put-at-2.result c.put-moves-at.result three c.put-moves-at.ensures in
-    let five = lights_named M old room c.put-moves-at.new.buffer c.put-at-3.new.buffer c.put-moves-at.result c.put-at-3.result four c.put-at-3.ensures in
-    last_piece old 0 (frame_text M) room (lights_text M) c.put-at-3.new.buffer c.put-lights.new.buffer c.put-at-3.result c.put-lights.result five c.put-lights.ensures
+    let sizes = subst (λ (z : Sizes). Wrote c.put-at.new.buffer c.put-at.result (heading (sizes_text z)) c.put_sizes-at.new.buffer c.put_sizes-at.result) c.sizes.ensures c.put_sizes-at.ensures in
+    let two = sized M old room c.put-at.new.buffer c.put_sizes-at.new.buffer c.put-at.result c.put_sizes-at.result one sizes in
+    let three = moves_named M old room c.put_sizes-at.new.buffer c.put-at-2.new.buffer c.put_sizes-at.result c.put-at-2.result two c.put-at-2.ensures in
+    let four = moved M old room c.put-at-2.new.buffer c.put_moves-at.new.buffer c.put-at-2.result c.put_moves-at.result three c.put_moves-at.ensures in
+    let five = lights_named M old room c.put_moves-at.new.buffer c.put-at-3.new.buffer c.put_moves-at.result c.put-at-3.result four c.put-at-3.ensures in
+    last_piece old 0 (frame_text M) room (lights_text M) c.put-at-3.new.buffer c.put_lights.new.buffer c.put-at-3.result c.put_lights.result five c.put_lights.ensures

@@ -9,8 +9,8 @@ use Rattle.listings.proofs.writer.put_moves_on.Goals as goal
 pub loop-to-init : goal.loop-to-init
 loop-to-init c = no_text c.args.buffer.now c.args.at
 
-pub put-move-place-requires : goal.put-move-place-requires
-put-move-place-requires c =
+pub put_move-place-requires : goal.put_move-place-requires
+put_move-place-requires c =
     let M = meaning_of c.args.frame.now in
     let within = ap (λ (z : Sizes). z.states) c.sizes-to-end.ensures in
     let room = has_room c.args.buffer.now c.args.at M.sizes.states (λ t. move_line (M.kind c.args.from c.args.action t) c.args.from c.args.action t) c.requires.fits c.loop-to.to c.loop-to.place c.loop-to.buffer (omega (arith, within)) c.loop-to.invariant in
@@ -19,4 +19,4 @@ put-move-place-requires c =
 pub loop-to-preserved : goal.loop-to-preserved
 loop-to-preserved c =
     let M = meaning_of c.args.frame.now in
-    one_more c.args.buffer.now c.args.at M.sizes.states (λ t. move_line (M.kind c.args.from c.args.action t) c.args.from c.args.action t) c.requires.fits c.loop-to.to c.loop-to.place c.put-move-place.result c.loop-to.buffer c.put-move-place.new.buffer c.loop-to.invariant (subst (λ k. Wrote c.loop-to.buffer c.loop-to.place (move_line k c.args.from c.args.action c.loop-to.to) c.put-move-place.new.buffer c.put-move-place.result) c.kind.ensures c.put-move-place.ensures)
+    one_more c.args.buffer.now c.args.at M.sizes.states (λ t. move_line (M.kind c.args.from c.args.action t) c.args.from c.args.action t) c.requires.fits c.loop-to.to c.loop-to.place c.put_move-place.result c.loop-to.buffer c.put_move-place.new.buffer c.loop-to.invariant (subst (λ k. Wrote c.loop-to.buffer c.loop-to.place (move_line k c.args.from c.args.action c.loop-to.to) c.put_move-place.new.buffer c.put_move-place.result) c.kind.ensures c.put_move-place.ensures)

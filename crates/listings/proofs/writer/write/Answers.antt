@@ -14,8 +14,8 @@ use Rattle.listings.proofs.writer.write.Goals as goal
 framed : (f : Frame) → Framed (meaning_of f)
 framed f = record { lawful = lawful f; some_states = f.some_states; few_states = f.few_states }
 
-pub put-frame-requires : goal.put-frame-requires
-put-frame-requires c =
+pub put_frame-requires : goal.put_frame-requires
+put_frame-requires c =
     let f = c.args.draft.now.frame in
     let room : length (frame_text (meaning_of f)) ≤ length c.args.buffer.now = omega (arith, text_fits (meaning_of f) (framed f), c.room.ensures) in
     subst (λ (x : Frame). length (frame_text (meaning_of x)) ≤ length c.args.buffer.now) (sym c.frame.ensures) room
@@ -25,7 +25,7 @@ returns c =
     let M = draft_meaning c.args.draft.now in
     let old = c.args.buffer.now in
     let short : ltb (length old) (room_of M) ≡ false = le-ltb (length old) (room_of M) (omega (arith, c.room.ensures)) in
-    let wrote = subst (λ (x : Frame). Wrote old 0 (frame_text (meaning_of x)) c.put-frame.new.buffer c.put-frame.result) c.frame.ensures c.put-frame.ensures in
+    let wrote = subst (λ (x : Frame). Wrote old 0 (frame_text (meaning_of x)) c.put_frame.new.buffer c.put_frame.result) c.frame.ensures c.put_frame.ensures in
     record {
       answer = ap Ok (wrote.place ∙ omega arith) ∙ sym (cond-false (ltb (length old) (room_of M)) (Err Full) (Ok (length (frame_text M))) short);
       after = wrote.after ∙ sym (cond-false (ltb (length old) (room_of M)) old (put old 0 (frame_text M)) short);

@@ -10,6 +10,6 @@ returns c =
     let number = decimal c.args.number in
     let end = 32 ∷ c.args.letter ∷ 32 ∷ [] in
     let long = length-append number end in
-    let first = fits old at number c.write-number-next.new.buffer c.write-number-next.result (omega (arith, long, c.requires)) c.write-number-next.ensures.after c.write-number-next.ensures.next in
-    then old c.write-number-next.new.buffer c.write-bytes.new.buffer at c.write-number-next.result c.write-bytes.result number end (omega (arith, long, c.requires)) first
-    (fits c.write-number-next.new.buffer c.write-number-next.result end c.write-bytes.new.buffer c.write-bytes.result (omega (arith, long, c.requires, first.place, c.write-number-next.auto)) c.write-bytes.ensures.after c.write-bytes.ensures.next)
+    let first = fits old at number c.write_number-next.new.buffer c.write_number-next.result (omega (arith, long, c.requires)) c.write_number-next.ensures.after c.write_number-next.ensures.next in
+    then old c.write_number-next.new.buffer c.write_bytes.new.buffer at c.write_number-next.result c.write_bytes.result number end (omega (arith, long, c.requires)) first
+    (fits c.write_number-next.new.buffer c.write_number-next.result end c.write_bytes.new.buffer c.write_bytes.result (omega (arith, long, c.requires, first.place, c.write_number-next.auto)) c.write_bytes.ensures.after c.write_bytes.ensures.next)

@@ -12,4 +12,4 @@ returns c =
     let word = c.args.word.now in
     let same : (state ++ (32 ∷ letter ∷ 32 ∷ [])) ++ word ≡ state ++ (32 ∷ letter ∷ 32 ∷ word) = simp append_assoc in
     subst (λ t. Wrote old c.args.at t c.put.new.buffer c.put.result) same
-    (then old c.put-letter-at.new.buffer c.put.new.buffer c.args.at c.put-letter-at.result c.put.result (state ++ (32 ∷ letter ∷ 32 ∷ [])) word (omega (arith, c.requires)) c.put-letter-at.ensures c.put.ensures)
+    (then old c.put_letter-at.new.buffer c.put.new.buffer c.args.at c.put_letter-at.result c.put.result (state ++ (32 ∷ letter ∷ 32 ∷ [])) word (omega (arith, c.requires)) c.put_letter-at.ensures c.put.ensures)

@@ -13,5 +13,5 @@ returns c =
     let word = c.args.word.now in
     let same : ((from ++ (32 ∷ letter ∷ 32 ∷ [])) ++ (to ++ (32 ∷ []))) ++ word ≡ from ++ (32 ∷ letter ∷ 32 ∷ (to ++ (32 ∷ word))) = simp append_assoc in
     subst (λ t. Wrote old c.args.at t c.put.new.buffer c.put.result) same
-    (then old c.put-field-at.new.buffer c.put.new.buffer c.args.at c.put-field-at.result c.put.result ((from ++ (32 ∷ letter ∷ 32 ∷ [])) ++ (to ++ (32 ∷ []))) word (omega (arith, c.requires))
-    (then old c.put-letter-at.new.buffer c.put-field-at.new.buffer c.args.at c.put-letter-at.result c.put-field-at.result (from ++ (32 ∷ letter ∷ 32 ∷ [])) (to ++ (32 ∷ [])) (omega (arith, c.requires)) c.put-letter-at.ensures c.put-field-at.ensures) c.put.ensures)
+    (then old c.put_field-at.new.buffer c.put.new.buffer c.args.at c.put_field-at.result c.put.result ((from ++ (32 ∷ letter ∷ 32 ∷ [])) ++ (to ++ (32 ∷ []))) word (omega (arith, c.requires))
+    (then old c.put_letter-at.new.buffer c.put_field-at.new.buffer c.args.at c.put_letter-at.result c.put_field-at.result (from ++ (32 ∷ letter ∷ 32 ∷ [])) (to ++ (32 ∷ [])) (omega (arith, c.requires)) c.put_letter-at.ensures c.put_field-at.ensures) c.put.ensures)

@@ -3,8 +3,8 @@ use Rattle.marking.proofs.Iterated.{Iterates, lacks}
 use Rattle.marking.proofs.evaluation.+evaluate_at.Given as goal
 
 -- the parts of a node come before it
-abbrev pub decreases-evaluate-at : goal.decreases-evaluate-at
-decreases-evaluate-at l = l.at
+abbrev pub decreases-evaluate_at : goal.decreases-evaluate_at
+decreases-evaluate_at l = l.at
 
 -- the next pair is what the body means at the last, on the way to the fixed point
 abbrev pub invariant-loop-last : goal.invariant-loop-last

@@ -5,8 +5,8 @@ use Rattle.marking.specs.Standing.{ClosedAt}
 use Rattle.marking.proofs.Parts.{root_closed, empty_only, evaluates}
 use Rattle.marking.proofs.evaluation.evaluate.Goals as goal
 
-pub evaluate-at-requires : goal.evaluate-at-requires
-evaluate-at-requires c =
+pub evaluate_at-requires : goal.evaluate_at-requires
+evaluate_at-requires c =
     let s = c.args.sentence.now in
     record {
       closed = subst (ClosedAt s.nodes) (sym c.root.ensures) (root_closed s.nodes s.root s.closed);
@@ -16,4 +16,4 @@ evaluate-at-requires c =
 pub returns : goal.returns
 returns c f made =
     let s = c.args.sentence.now in
-    evaluates (meaning_of c.args.frame.now) f c.none.result c.evaluate-at.result c.none.ensures (c.evaluate-at.ensures f (subst (λ i. formula_at s.nodes i ≡ Some f) (sym c.root.ensures) made))
+    evaluates (meaning_of c.args.frame.now) f c.none.result c.evaluate_at.result c.none.ensures (c.evaluate_at.ensures f (subst (λ i. formula_at s.nodes i ≡ Some f) (sym c.root.ensures) made))

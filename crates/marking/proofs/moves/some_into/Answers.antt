@@ -16,7 +16,7 @@ loop-state-preserved c =
     let few = c.args.frame.now.few_states in
     let all : c.sizes-states.result.states ≡ states M = ap (λ z. z.states) c.sizes-states.ensures in
     let lt : c.loop-state.state < width = omega (arith, c.loop-state-test.true) in
-    filled_more c.loop-state.state (enters_some (among c.args.which) M c.args.action (has c.args.set)) c.loop-state.found c.with-if-found.result c.some-enters.result lt c.loop-state.invariant c.some-enters.ensures c.with-if-found.ensures
+    filled_more c.loop-state.state (enters_some (among c.args.which) M c.args.action (has c.args.set)) c.loop-state.found c.with_if-found.result c.some_enters.result lt c.loop-state.invariant c.some_enters.ensures c.with_if-found.ensures
 
 pub returns : goal.returns
 returns c =

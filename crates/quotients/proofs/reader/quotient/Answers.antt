@@ -22,4 +22,4 @@ returns-in-Ok c =
     let q = progress_of c.parse.new.parser in
     let o = reading_into c.args.moves.now c.args.lights.now text in
     let fit : Fits (Ok tt) q o = subst (λ (p : Progress). Fits (Ok tt) q (reading p text)) c.new-parser.ensures (run_fits progress_of c.in-Ok.ensures) in
-    record { answer = answer_fits (Ok tt) q o fit; after = c.fold-into.ensures.after ∙ read_fits q o (draft_meaning c.args.draft.now) fit; faithful = read_faithful q o (draft_meaning c.fold-into.new.draft) fit c.fold-into.ensures.folded }
+    record { answer = answer_fits (Ok tt) q o fit; after = c.fold_into.ensures.after ∙ read_fits q o (draft_meaning c.args.draft.now) fit; faithful = read_faithful q o (draft_meaning c.fold_into.new.draft) fit c.fold_into.ensures.folded }

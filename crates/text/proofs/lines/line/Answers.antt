@@ -27,8 +27,8 @@ returns-then-left-eq0 c =
       | inr h ↦ sym (sym c.loop-left.invariant ∙ line_past xs c.loop-left.at c.loop-left.left h.1)
     ]
 
-pub slice-bounds-result-end : goal.slice-bounds-result-end
-slice-bounds-result-end c =
+pub slice_bounds-result-end : goal.slice_bounds-result-end
+slice_bounds-result-end c =
     let rest = drop c.loop-left.at c.args.text.now in
     let size = length-drop c.loop-left.at c.args.text.now in
     let end : c.find-end-2.result ≤ length c.args.text.now = omega (arith, before_length 10 rest) in

@@ -12,5 +12,5 @@ returns c =
     let fits : at + length bs ≤ length old = omega arith in
     record {
       next = sym (next_fits old at bs fits);
-      after = put_mid-paste at (at + length bs - at) old c.copy-from-slice.new.self bs (length bs) c.copy-from-slice.ensures.after (omega arith) refl ∙ paste_all old at bs (length bs) refl ∙ sym (written_fits old at bs fits);
+      after = put_mid-paste at (at + length bs - at) old c.copy_from_slice.new.self bs (length bs) c.copy_from_slice.ensures.after (omega arith) refl ∙ paste_all old at bs (length bs) refl ∙ sym (written_fits old at bs fits);
     }

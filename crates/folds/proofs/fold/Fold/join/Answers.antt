@@ -6,13 +6,13 @@ use Rattle.folds.specs.Folds.{is_map}
 use Rattle.folds.proofs.Joined.{mismatched, wrong_rows, joins, faithful_refused, faithful_joined, class_held}
 use Rattle.folds.proofs.fold.Fold.join.Goals as goal
 
-pub returns-then-not-is-map : goal.returns-then-not-is-map
-returns-then-not-is-map g c =
+pub returns-then-not-is_map : goal.returns-then-not-is_map
+returns-then-not-is_map g c =
     let f = c.args.self.now in
     let M = g.S.System.meaning f.system in
     let cs = f.classes.of in
     record {
-      answer = mismatched M cs f.count (length c.args.rows.now) (sym c.if-not-is-map.ensures);
+      answer = mismatched M cs f.count (length c.args.rows.now) (sym c.if-not-is_map.ensures);
       rows = refl;
       faithful = faithful_refused M cs f.count (g.met.S.System.lawful f.system) Mismatch c.args.rows.now;
     }
@@ -22,7 +22,7 @@ returns-then-rows-states g c =
     let f = c.args.self.now in
     let M = g.S.System.meaning f.system in
     let cs = f.classes.of in
-    let mapped : is_map M cs f.count ≡ true = sym c.if-not-is-map.ensures in
+    let mapped : is_map M cs f.count ≡ true = sym c.if-not-is_map.ensures in
     let wrong : length c.args.rows.now ≢ states M = omega (arith, ap (λ (z : Sizes). z.states) c.sizes-states.ensures) in
     record {
       answer = wrong_rows M cs f.count (length c.args.rows.now) mapped wrong;
@@ -35,7 +35,7 @@ fill-requires g c =
     let f = c.args.self.now in
     let M = g.S.System.meaning f.system in
     let cs = f.classes.of in
-    let mapped : is_map M cs f.count ≡ true = sym c.if-not-is-map.ensures in
+    let mapped : is_map M cs f.count ≡ true = sym c.if-not-is_map.ensures in
     let long : length c.args.rows.now ≡ states M = omega (arith, ap (λ (z : Sizes). z.states) c.sizes-states.ensures) in
     λ s h. class_held M cs f.count (g.met.S.System.lawful f.system) mapped s (omega arith)
 
@@ -44,7 +44,7 @@ returns g c =
     let f = c.args.self.now in
     let M = g.S.System.meaning f.system in
     let cs = f.classes.of in
-    let mapped : is_map M cs f.count ≡ true = sym c.if-not-is-map.ensures in
+    let mapped : is_map M cs f.count ≡ true = sym c.if-not-is_map.ensures in
     let long : length c.args.rows.now ≡ states M = omega (arith, ap (λ (z : Sizes). z.states) c.sizes-states.ensures) in
     record {
       answer = joins M cs f.count (length c.args.rows.now) mapped long;

@@ -24,5 +24,5 @@ returns g c =
     let is = c.sizes-sizes.ensures in
     record {
       answer = taken_over width N c.sizes-sizes.result.states (ap (λ (z : Sizes). z.states) is) c.if-sizes-eq0.false c.if-sizes-gt-WIDTH.false;
-      after = copied N (meaning_of c.blank-frame.result) (meaning_of c.copy-moves.new.frame) (meaning_of c.copy-lights.new.frame) c.sizes-sizes.result (g.met.S.System.lawful system) is c.blank-frame.ensures c.copy-moves.ensures c.copy-lights.ensures;
+      after = copied N (meaning_of c.blank-frame.result) (meaning_of c.copy_moves.new.frame) (meaning_of c.copy_lights.new.frame) c.sizes-sizes.result (g.met.S.System.lawful system) is c.blank-frame.ensures c.copy_moves.ensures c.copy_lights.ensures;
     }

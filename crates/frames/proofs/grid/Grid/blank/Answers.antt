@@ -9,8 +9,8 @@ pub returns : goal.returns
 returns c =
     let none = λ (t a : ℕ). read_copies (λ w. has w t ≡ false) c.empty-none.result 0 8 a (c.empty-none.ensures t) (has_zero t) in
     record {
-      no-may = λ s a t. read_copies (λ r. row_may r a t ≡ false) _ blank_row width s (none t a) (has_zero t);
-      no-must = λ s a t. read_copies (λ r. row_must r a t ≡ false) _ blank_row width s (none t a) (has_zero t);
-      no-on = none;
-      no-off = none;
+      no_may = λ s a t. read_copies (λ r. row_may r a t ≡ false) _ blank_row width s (none t a) (has_zero t);
+      no_must = λ s a t. read_copies (λ r. row_must r a t ≡ false) _ blank_row width s (none t a) (has_zero t);
+      no_on = none;
+      no_off = none;
     }

@@ -11,8 +11,8 @@ returns c =
     let within : from < length grid.rows = search rules in
     let place = λ (s a t : ℕ). and_assoc (eqb s from) (eqb a c.args.action) (eqb t c.args.to) in
     record {
-      may = λ s a t. test_set (λ r. row_may r a t) blank_row grid.rows from _ _ _ within (c.set-move.ensures.may a t) s ∙ ap (λ here. cond here (possible c.args.kind) (may_at grid s a t)) (place s a t);
-      must = λ s a t. test_set (λ r. row_must r a t) blank_row grid.rows from _ _ _ within (c.set-move.ensures.must a t) s ∙ ap (λ here. cond here (certain c.args.kind) (must_at grid s a t)) (place s a t);
+      may = λ s a t. test_set (λ r. row_may r a t) blank_row grid.rows from _ _ _ within (c.set_move.ensures.may a t) s ∙ ap (λ here. cond here (possible c.args.kind) (may_at grid s a t)) (place s a t);
+      must = λ s a t. test_set (λ r. row_must r a t) blank_row grid.rows from _ _ _ within (c.set_move.ensures.must a t) s ∙ ap (λ here. cond here (certain c.args.kind) (must_at grid s a t)) (place s a t);
       on = refl;
       off = refl;
     }

@@ -12,5 +12,5 @@ returns c =
     let in_must : here < length must = search rules in
     record {
       may = λ a t. test_set (λ w. has w t) 0 may here c.put.result (eqb t c.args.to) _ in_may (c.put.ensures t ∙ ap (λ b. cond (eqb t c.args.to) b (has (get_or may here 0) t)) c.is_possible.ensures) a;
-      must = λ a t. test_set (λ w. has w t) 0 must here c.put-2.result (eqb t c.args.to) _ in_must (c.put-2.ensures t ∙ ap (λ b. cond (eqb t c.args.to) b (has (get_or must here 0) t)) c.is-certain.ensures) a;
+      must = λ a t. test_set (λ w. has w t) 0 must here c.put-2.result (eqb t c.args.to) _ in_must (c.put-2.ensures t ∙ ap (λ b. cond (eqb t c.args.to) b (has (get_or must here 0) t)) c.is_certain.ensures) a;
     }

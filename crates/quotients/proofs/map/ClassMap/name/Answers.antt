@@ -2,7 +2,7 @@ use Rattle.std.proofs.Common.{arith}
 use Rattle.quotients.proofs.Below.{below_set}
 use Rattle.quotients.proofs.map.ClassMap.name.Goals as goal
 
-pub invariant-of-self : goal.invariant-of-self
-invariant-of-self c =
+pub invariant_of-self : goal.invariant_of-self
+invariant_of-self c =
     let map = c.args.self.now in
     (map.some, (map.few, (below_set map.classes.of c.args.state c.args.class map.count map.below (omega arith), tt)))
