@@ -3,7 +3,7 @@ use Rattle.folds.specs.Folds.{fold_meaning}
 use Rattle.folds.specs.declared.classes.Classes.{Classes}
 use Rattle.frames.specs.Frames.{draft_meaning}
 use Rattle.systems.specs.Meaning.{Meaning}
-use Rattle.tables.proofs.Laws.{table_lawful}
+use Rattle.tables.specs.Laws.{table_lawful}
 use Rattle.tables.specs.Tables.{making_of, listed_meaning}
 use Rattle.tables.specs.declared.listed.Listed.{Listed}
 use Rattle.quotients.proofs.Loads.{loaded, folds}

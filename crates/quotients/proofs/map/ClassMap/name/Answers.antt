@@ -5,4 +5,4 @@ use Rattle.quotients.proofs.map.ClassMap.name.Goals as goal
 pub invariant_of-self : goal.invariant_of-self
 invariant_of-self c =
     let map = c.args.self.now in
-    (map.some, (map.few, (below_set map.classes.of c.args.state c.args.class map.count map.below (omega arith), tt)))
+    record { some = map.some; few = map.few; below = below_set map.classes.of c.args.state c.args.class map.count map.below (omega arith) }
