@@ -1,5 +1,5 @@
 -- Formulas, of any length and depth.
-use Rattle.std.specs.Prelude.{◌≡◌, Bool, true, false, cond, ◌&&◌, ℕ, suc, max, ltb}
+use Rattle.std.specs.Prelude.{Bool, true, false, cond, ◌&&◌, ℕ, suc, max, ltb}
 use Rattle.calculus.specs.declared.syntax.Variable.{Variable}
 use Rattle.calculus.specs.declared.syntax.Variable.TheVariants.{X, Y, Z}
 use Rattle.calculus.specs.declared.syntax.Leaf.{Leaf}

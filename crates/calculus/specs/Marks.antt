@@ -1,8 +1,7 @@
 -- What a formula means in a system, and how states are marked by it.
-use Rattle.std.specs.Prelude.{◌≡◌, Bool, true, false, cond, ℕ}
+use Rattle.std.specs.Prelude.{◌≡◌, false, cond, ℕ}
 use Rattle.systems.specs.Meaning.{Meaning, states}
 use Rattle.calculus.specs.declared.syntax.Variable.{Variable}
-use Rattle.calculus.specs.declared.syntax.Prefix.{Prefix}
 use Rattle.calculus.specs.declared.syntax.Prefix.TheVariants.{Not, Diamond, Box, Least, Greatest}
 use Rattle.calculus.specs.declared.syntax.Mark.{Mark}
 use Rattle.calculus.specs.declared.syntax.Mark.TheVariants.{True, False, Unknown}

@@ -1,5 +1,5 @@
 -- What a case answers of a formula's text.
-use Rattle.std.specs.Prelude.{◌≡◌, ℕ, ◌<◌, ◌≤◌, List, Ok, Err, Result}
+use Rattle.std.specs.Prelude.{ℕ, ◌<◌, ◌≤◌, List, Ok, Err, Result}
 use Rattle.calculus.specs.Formula.{Formula}
 use Rattle.calculus.specs.Marks.{Marked}
 use Rattle.calculus.specs.declared.syntax.Mark.{Mark}

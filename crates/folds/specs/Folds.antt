@@ -1,5 +1,5 @@
 -- The abstraction of a system by a map of its states to classes, as it is computed.
-use Rattle.std.specs.Prelude.{ℕ, Bool, true, false, cond, not, ◌&&◌, ◌||◌, ltb, List, ◌==◌, nat_le, nat_lt, slice_index}
+use Rattle.std.specs.Prelude.{ℕ, Bool, true, cond, not, ◌&&◌, ◌||◌, ltb, List, ◌==◌, nat_le, nat_lt, slice_index}
 use Rattle.sets.specs.Sets.{width}
 use Rattle.systems.specs.Bounded.{any, all}
 use Rattle.systems.specs.Meaning.{Meaning, states, actions, lamps, blank}

@@ -1,8 +1,8 @@
 -- The abstraction of a system by a map, in words: with quantifiers over the members of a class.
 use Rattle.std.specs.Prelude.{◌≡◌, ℕ, ◌<◌, Bool, true, ◌↔◌, List, nat_eq}
-use Rattle.systems.specs.Meaning.{Meaning, states, actions, lamps}
+use Rattle.systems.specs.Meaning.{Meaning, states}
 use Rattle.systems.specs.Refinement.{Refines}
-use Rattle.systems.specs.Words.{possible, certain, is_on, is_off}
+use Rattle.systems.specs.Words.{possible, certain}
 use Rattle.systems.specs.declared.kinds.Kind.{Kind}
 use Rattle.systems.specs.declared.kinds.Light.TheVariants.{On, Off}
 use Rattle.folds.specs.Folds.{class_of, fold_meaning, is_map}

@@ -1,5 +1,5 @@
 -- What a text is answered with that should be a closed formula over k actions and n lamps.
-use Rattle.std.specs.Prelude.{◌≡◌, ℕ, Bool, true, false, cond, not, ◌||◌, ◌⊎◌, List, length, Some, None, Ok, Err, Option, ◌==◌, nat_lt}
+use Rattle.std.specs.Prelude.{◌≡◌, ℕ, Bool, true, false, cond, not, ◌||◌, List, length, Ok, Err, ◌==◌, nat_lt}
 use Rattle.systems.specs.Edits.{Answer}
 use Rattle.systems.specs.declared.refusal.Refusal.{Refusal}
 use Rattle.systems.specs.declared.refusal.Refusal.TheVariants.{FormulaLength, NotFormula, ForeignLetter, Unbound, Nesting}

@@ -1,5 +1,5 @@
 -- What the sets of a frame's table say of its moves and lights.
-use Rattle.std.proofs.Common.{◌≡◌, ℕ, ◌≤◌, Bool, true, false, sym, refl, ap, ◌∙◌}
+use Rattle.std.proofs.Common.{◌≡◌, ℕ, Bool, true, false, refl}
 use Rattle.systems.specs.Words.{possible, certain, is_on, is_off}
 use Rattle.frames.specs.Frames.{meaning_of}
 use Rattle.frames.specs.Grids.{may_at, must_at, on_at, off_at, kind_of, light_of}

@@ -1,14 +1,12 @@
 -- What a frame keeps, in terms of its meaning.
-use Rattle.std.proofs.Common.{◌≡◌, ℕ, ◌<◌, ◌≤◌, Bool, true, false, cond, ◌&&◌, ltb, sym, refl, ap, ◌∙◌, ⊎_elim, arith}
-use Rattle.std.proofs.lemmas.Bool.{both_ways, cases_Bool, and_left, and_right, le-ltb}
-use Rattle.systems.specs.Meaning.{Meaning, Lawful, move_within, light_within}
+use Rattle.std.proofs.Common.{◌≡◌, ℕ, ◌≤◌, Bool, true, false, sym, refl}
+use Rattle.std.proofs.lemmas.Bool.{both_ways, and_left, and_right, le-ltb}
+use Rattle.systems.specs.Meaning.{Lawful, move_within, light_within}
 use Rattle.systems.specs.Words.{possible, known}
-use Rattle.systems.specs.declared.kinds.Sizes.{Sizes}
 use Rattle.systems.specs.declared.kinds.Kind.TheVariants.{Absent}
 use Rattle.systems.specs.declared.kinds.Light.TheVariants.{Unknown}
 use Rattle.frames.specs.Grids.{may_at, must_at, on_at, off_at, kind_of, light_of, frame_meaning}
 use Rattle.frames.specs.Laws.{grid_lawful}
-use Rattle.frames.specs.declared.grid.Grid.{Grid}
 use Rattle.frames.specs.declared.frame.Frame.{Frame}
 
 not_possible : (must may : Bool) → (possible (kind_of must may) ≡ true → ⊥) → kind_of must may ≡ Absent

@@ -1,5 +1,5 @@
 -- A system with some of its moves and lights taken from another.
-use Rattle.std.specs.Prelude.{ℕ, Bool, cond, ◌&&◌, eqb, ltb}
+use Rattle.std.specs.Prelude.{ℕ, Bool, cond}
 use Rattle.systems.specs.Meaning.{Meaning}
 
 -- M, but the moves at the places that p names are N's

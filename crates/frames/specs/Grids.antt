@@ -1,6 +1,6 @@
 -- What a frame's table says: which moves and lights its sets hold.
-use Rattle.std.specs.Prelude.{ℕ, Bool, cond, List, [], slice_index, slice_index_or}
-use Rattle.sets.specs.Sets.{Set, has}
+use Rattle.std.specs.Prelude.{ℕ, Bool, cond, [], slice_index, slice_index_or}
+use Rattle.sets.specs.Sets.{has}
 use Rattle.systems.specs.Meaning.{Meaning}
 use Rattle.systems.specs.declared.kinds.Kind.{Kind}
 use Rattle.systems.specs.declared.kinds.Kind.TheVariants.{Absent, Optional, Certain}

@@ -7,7 +7,7 @@ use Rattle.frames.specs.Drafts.{drafting, first_sizes}
 use Rattle.sets.specs.Sets.{width}
 use Rattle.systems.specs.Edits.{size_answer}
 use Rattle.systems.specs.Making.{Making}
-use Rattle.systems.specs.Meaning.{Meaning, Lawful, states, actions, lamps, blank, move_within}
+use Rattle.systems.specs.Meaning.{Meaning, Lawful, states, blank, move_within}
 use Rattle.systems.specs.declared.kinds.Sizes.{Sizes}
 use Rattle.listings.specs.Forms.{sizes_names, moves_names, lights_names, sizes_text}
 use Rattle.listings.specs.Parts.{step}

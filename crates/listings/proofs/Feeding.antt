@@ -1,5 +1,5 @@
 -- The run over a text, one line after another.
-use Rattle.std.proofs.Common.{◌≡◌, ℕ, suc, ◌+◌, ◌-◌, ◌<◌, ◌≤◌, Bool, true, false, List, [], ◌∷◌, length, take, drop, Ok, Err, sym, refl, ap, ◌∙◌, subst, add-one, arith}
+use Rattle.std.proofs.Common.{◌≡◌, ℕ, ◌+◌, ◌-◌, ◌<◌, ◌≤◌, Bool, true, false, List, length, take, drop, Ok, Err, refl, subst, add-one}
 use Rattle.std.proofs.lemmas.List.{drop_all}
 use Rattle.systems.specs.declared.refusal.Refusal.TheVariants.{Form}
 use Rattle.text.proofs.Feeds.{feed_here, open_here}

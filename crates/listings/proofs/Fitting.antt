@@ -1,7 +1,6 @@
 -- The text of a frame fits the room that is booked for it.
-use Rattle.std.proofs.Common.{◌≡◌, ℕ, ◌+◌, ◌*◌, ◌<◌, ◌≤◌, List, [], ◌∷◌, ◌++◌, length, mul-add, arith, length-append}
+use Rattle.std.proofs.Common.{◌≡◌, ℕ, ◌+◌, ◌*◌, ◌<◌, ◌≤◌, List, ◌++◌, length, mul-add, arith, length-append}
 use Rattle.text.proofs.Numerals.{length_decimal_one, length_decimal_two}
-use Rattle.text.specs.Numbers.{decimal}
 use Rattle.systems.specs.Meaning.{Meaning, states, actions, lamps}
 use Rattle.systems.specs.Words.{possible, known}
 use Rattle.systems.specs.declared.kinds.Kind.{Kind}

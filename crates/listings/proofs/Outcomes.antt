@@ -1,5 +1,5 @@
 -- What a run of lines comes to where a part of a paper takes them.
-use Rattle.std.proofs.Common.{◌≡◌, ℕ, suc, ◌<◌, ◌≤◌, Bool, true, false, cond, ltb, List, [], ◌∷◌, length, Ok, Err, sym, refl, ap, ◌∙◌, subst, subst₂, arith}
+use Rattle.std.proofs.Common.{◌≡◌, ℕ, suc, Bool, ltb, List, length, Ok, Err, sym, refl, ap, subst, subst₂, arith}
 use Rattle.std.proofs.lemmas.Bool.{cond-true, cond-false, lt-ltb, le-ltb}
 use Rattle.systems.specs.Making.{Making}
 use Rattle.systems.specs.Meaning.{Meaning}

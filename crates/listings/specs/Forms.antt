@@ -1,5 +1,5 @@
 -- The lines of a listing: what each is written as, and what is read from one.
-use Rattle.std.specs.Prelude.{ℕ, ◌+◌, ◌-◌, Bool, true, false, cond, ◌&&◌, List, [], ◌∷◌, ◌++◌, Some, None, codes, Option, nat_le, nat_lt}
+use Rattle.std.specs.Prelude.{ℕ, ◌+◌, ◌-◌, cond, ◌&&◌, List, [], ◌∷◌, ◌++◌, Some, None, codes, Option, nat_le, nat_lt}
 use Rattle.std.specs.Str.{bytes_eq}
 use Rattle.text.specs.Bytes.{cut}
 use Rattle.text.specs.Numbers.{decimal, numeral}

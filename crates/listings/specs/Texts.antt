@@ -1,5 +1,5 @@
 -- The text of a frame: its sizes, its moves by from, action and to, and its lights by state and lamp.
-use Rattle.std.specs.Prelude.{◌≡◌, ℕ, zero, suc, ◌+◌, ◌*◌, ◌<◌, ◌≤◌, List, [], ◌∷◌, ◌++◌, length, Ok}
+use Rattle.std.specs.Prelude.{◌≡◌, ℕ, zero, suc, ◌<◌, ◌≤◌, List, [], ◌∷◌, ◌++◌, length, Ok}
 use Rattle.frames.specs.Drafts.{drafting, first_sizes}
 use Rattle.sets.specs.Sets.{width}
 use Rattle.systems.specs.Meaning.{Meaning, Lawful, states, actions, lamps, blank}

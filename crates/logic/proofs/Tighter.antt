@@ -2,7 +2,7 @@
 -- the other lacks, refines it; tightening makes such a system.
 use Rattle.std.proofs.Common.{◌≡◌, ℕ, ◌<◌, Bool, true, false, ◌&&◌, eqb, sym, refl, ap, ◌∙◌, subst}
 use Rattle.std.proofs.lemmas.Bool.{both_ways, and_parts, cond_both, eqb-true, eq-eqb}
-use Rattle.systems.specs.Meaning.{Meaning, states, actions, lamps, with_move, with_light}
+use Rattle.systems.specs.Meaning.{Meaning, states, with_move, with_light}
 use Rattle.systems.specs.Refinement.{Alike, Joined, Refines}
 use Rattle.systems.specs.Words.{possible, certain, known}
 use Rattle.systems.specs.declared.kinds.Kind.{Kind}

@@ -1,15 +1,15 @@
 -- What is proved of marks and refinement, for all systems with any number of states and for all
 -- formulas.
-use Rattle.std.specs.Prelude.{◌≡◌, ℕ, ◌<◌, Bool, true, false, cond, ◌↔◌, nat_eq}
+use Rattle.std.specs.Prelude.{◌≡◌, ℕ, ◌<◌, Bool, true, ◌↔◌, nat_eq}
 use Rattle.systems.specs.Meaning.{Meaning, states, actions, lamps, with_move, with_light}
 use Rattle.systems.specs.Refinement.{Alike, Joined, Refines}
 use Rattle.systems.specs.Words.{possible, certain, known}
 use Rattle.systems.specs.declared.kinds.Kind.{Kind}
-use Rattle.systems.specs.declared.kinds.Kind.TheVariants.{Absent, Optional, Certain}
+use Rattle.systems.specs.declared.kinds.Kind.TheVariants.{Optional}
 use Rattle.systems.specs.declared.kinds.Light.{Light}
 use Rattle.systems.specs.declared.kinds.Light.TheVariants.{Unknown}
 use Rattle.calculus.specs.declared.syntax.Mark.{Mark}
-use Rattle.calculus.specs.declared.syntax.Mark.TheVariants.{True, False, Unknown as Open}
+use Rattle.calculus.specs.declared.syntax.Mark.TheVariants.{True, False}
 use Rattle.calculus.specs.Formula.{Formula, closed, within_letters}
 use Rattle.calculus.specs.Pairs.{Pair, Same}
 use Rattle.calculus.specs.Marks.{Means, Marked, nothing}

@@ -1,5 +1,5 @@
 -- What a run over a text comes to where a quotient's parser takes its lines.
-use Rattle.std.proofs.Common.{◌≡◌, ℕ, suc, Bool, true, false, cond, ltb, List, [], ◌∷◌, length, Ok, Err, sym, refl, ap, ◌∙◌, subst, arith}
+use Rattle.std.proofs.Common.{◌≡◌, ℕ, suc, Bool, ltb, List, length, Ok, Err, sym, refl, ap, subst, arith}
 use Rattle.std.proofs.lemmas.Bool.{cond-true, cond-false, lt-ltb, le-ltb}
 use Rattle.listings.specs.Runs.{Judged, Run, Verdict, rejected, longest_paper, ended, early, open_line, refused, next, too_long, judged}
 use Rattle.listings.specs.declared.rejection.Rejection.{Rejection}

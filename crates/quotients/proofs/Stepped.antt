@@ -1,5 +1,5 @@
 -- A line that is taken as its step says.
-use Rattle.std.proofs.Common.{◌≡◌, ℕ, List, Ok, Err, sym, refl, ap, ◌∙◌, arith}
+use Rattle.std.proofs.Common.{◌≡◌, ℕ, List, Ok, Err, refl, arith}
 use Rattle.listings.specs.Runs.{rejected}
 use Rattle.systems.specs.declared.refusal.Refusal.{Refusal}
 use Rattle.quotients.specs.Steps.{Progress, Step, step, next_of, answer_of, verdict_at, Took}

@@ -1,6 +1,6 @@
 -- What a list of entries says of a system.
 use Rattle.std.specs.Prelude.{ℕ, ◌-◌, min, cond, ◌&&◌, List, [], ◌∷◌, length, take, Some, ◌==◌}
-use Rattle.systems.specs.Making.{Making, Places}
+use Rattle.systems.specs.Making.{Making}
 use Rattle.systems.specs.Meaning.{Meaning, move_within, light_within}
 use Rattle.systems.specs.Words.{drawn, shown}
 use Rattle.systems.specs.declared.kinds.Kind.{Kind}

@@ -1,4 +1,4 @@
-use Rattle.std.proofs.Common.{◌<◌, ◌≤◌, ap, subst}
+use Rattle.std.proofs.Common.{◌<◌, ◌≤◌, subst}
 use Rattle.frames.specs.Frames.{meaning_of}
 use Rattle.systems.specs.declared.kinds.Sizes.{Sizes}
 use Rattle.cases.specs.Marks.{no_state}

@@ -1,4 +1,4 @@
-use Rattle.std.proofs.Common.{◌≡◌, ◌*◌, ◌≤◌}
+use Rattle.std.proofs.Common.{◌≡◌, ◌≤◌}
 use Rattle.frames.specs.Frames.{meaning_of}
 use Rattle.systems.specs.Words.{known}
 use Rattle.listings.specs.Rooms.{sum_below, one_if}

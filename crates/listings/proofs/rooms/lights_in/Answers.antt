@@ -1,4 +1,4 @@
-use Rattle.std.proofs.Common.{◌+◌, sym, ap, ◌∙◌, ap₂, arith}
+use Rattle.std.proofs.Common.{◌+◌, sym, ◌∙◌, ap₂, arith}
 use Rattle.frames.specs.Frames.{meaning_of}
 use Rattle.listings.specs.Rooms.{lights_of}
 use Rattle.listings.proofs.Sums.{sum_more}

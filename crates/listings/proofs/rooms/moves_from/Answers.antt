@@ -1,4 +1,4 @@
-use Rattle.std.proofs.Common.{◌+◌, sym, ap, ◌∙◌, ap₂, arith}
+use Rattle.std.proofs.Common.{◌+◌, sym, ◌∙◌, ap₂, arith}
 use Rattle.frames.specs.Frames.{meaning_of}
 use Rattle.listings.specs.Rooms.{sum_below, one_if}
 use Rattle.systems.specs.Words.{possible}

@@ -1,4 +1,4 @@
-use Rattle.std.proofs.Common.{sym, ap, subst, arith}
+use Rattle.std.proofs.Common.{ap, arith}
 use Rattle.frames.specs.Frames.{meaning_of}
 use Rattle.listings.specs.Blocks.{moves_on_text}
 use Rattle.systems.specs.declared.kinds.Sizes.{Sizes}

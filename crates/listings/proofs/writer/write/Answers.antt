@@ -4,7 +4,7 @@ use Rattle.systems.specs.declared.refusal.Refusal.TheVariants.{Full}
 use Rattle.frames.proofs.Kept.{lawful}
 use Rattle.frames.specs.Frames.{meaning_of, draft_meaning}
 use Rattle.frames.specs.declared.frame.Frame.{Frame}
-use Rattle.listings.specs.Rooms.{Wrote, room_of, write_answer, write_after}
+use Rattle.listings.specs.Rooms.{Wrote, room_of}
 use Rattle.listings.specs.Texts.{frame_text, Framed}
 use Rattle.text.specs.Bytes.{put}
 use Rattle.listings.proofs.Back.{reads_back}

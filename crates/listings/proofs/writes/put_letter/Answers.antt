@@ -1,4 +1,4 @@
-use Rattle.std.proofs.Common.{◌+◌, ◌≤◌, [], ◌∷◌, length, arith, length-append}
+use Rattle.std.proofs.Common.{[], ◌∷◌, arith, length-append}
 use Rattle.text.specs.Numbers.{decimal}
 use Rattle.listings.proofs.Writing.{fits, then}
 use Rattle.listings.proofs.writes.put_letter.Goals as goal

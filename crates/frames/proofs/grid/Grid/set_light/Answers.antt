@@ -1,4 +1,4 @@
-use Rattle.std.proofs.Common.{ℕ, ◌<◌, cond, ◌&&◌, eqb, length, get_or, refl, ap, ◌∙◌, rules}
+use Rattle.std.proofs.Common.{ℕ, ◌<◌, cond, eqb, length, get_or, refl, ap, ◌∙◌, rules}
 use Rattle.sets.specs.Sets.{has}
 use Rattle.systems.specs.Words.{is_on, is_off}
 use Rattle.frames.specs.Grids.{on_at, off_at}

@@ -1,4 +1,4 @@
-use Rattle.std.proofs.Common.{ℕ, ◌<◌, cond, ◌&&◌, eqb, length, refl, ap, ◌∙◌, rules}
+use Rattle.std.proofs.Common.{ℕ, ◌<◌, cond, eqb, length, refl, ap, ◌∙◌, rules}
 use Rattle.systems.specs.Words.{possible, certain}
 use Rattle.frames.specs.Grids.{blank_row, row_may, row_must, may_at, must_at}
 use Rattle.frames.proofs.Tables.{test_set, and_assoc}
