@@ -2,7 +2,7 @@
 -- their order.
 use Rattle.std.specs.Prelude.{◌≡◌, ℕ, cond, ◌&&◌, ◌||◌, List, Some, None, Ok, Err, Option, Result, ◌==◌, nat_lt}
 use Rattle.std.specs.Str.{bytes_eq}
-use Rattle.listings.specs.Parts.{Step as PartStep, step as step-of-part, may_end}
+use Rattle.listings.specs.Parts.{Step as PartStep, step as step_of_part, may_end}
 use Rattle.listings.specs.Runs.{Verdict, rejected}
 use Rattle.listings.specs.declared.part.Stage.{Stage}
 use Rattle.sets.specs.Sets.{width}
@@ -47,7 +47,7 @@ carried m (Err e) = Err e
 
 -- where the part may end, the names of the classes end it
 abbrev pub part_step : Stage → Progress → List ℕ → Step
-part_step stage p l = cond (may_end stage && bytes_eq l classes_names) (Ok (at_phase Count p)) (carried p.map (step-of-part stage p.made l))
+part_step stage p l = cond (may_end stage && bytes_eq l classes_names) (Ok (at_phase Count p)) (carried p.map (step_of_part stage p.made l))
 
 -- as many classes as a frame can have states
 abbrev pub count_step : Progress → Option ℕ → Step

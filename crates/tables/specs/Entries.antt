@@ -29,10 +29,10 @@ usable es = min most_entries (length es)
 
 -- the system of these sizes with the moves and lights of the first entries of two lists
 abbrev pub table_meaning : Sizes → List MoveEntry → ℕ → List LightEntry → ℕ → Meaning
-table_meaning z ms drawn_so_far ls lit-so-far = record {
+table_meaning z ms drawn_so_far ls lit_so_far = record {
   sizes = z;
   kind = λ s a t. cond (move_within z s a t) (first_kind (take drawn_so_far ms) s a t) Absent;
-  light = λ s l. cond (light_within z s l) (first_light (take lit-so-far ls) s l) Unknown;
+  light = λ s l. cond (light_within z s l) (first_light (take lit_so_far ls) s l) Unknown;
 }
 
 -- what is made in a table: up to 256 states, and a place of the lists for each entry
