@@ -43,8 +43,8 @@ is_even unbound = false
 is_even even = true
 is_even odd = false
 
--- each variable belongs to a binder, with an even number of negations between the two, where those
--- that are not bound in the formula itself stand as e says
+-- going up from any variable to what binds it, one meets negations an even number of times; the
+-- variables that the formula itself leaves free stand as e says
 abbrev pub closed_under : (Variable → Standing) → Formula → Bool
 closed_under e (leaf True) = true
 closed_under e (leaf False) = true

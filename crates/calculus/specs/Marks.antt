@@ -24,7 +24,8 @@ Means M (binary o f g) e q = (p : Pair) × (r : Pair) × Means M f e p × Means 
 abbrev pub nothing : Variable → Pair
 nothing x = record { necessary = λ s. false; possibly = λ s. false }
 
--- true inside the necessary set, false outside the possible one, else unknown
+-- true where the state is in the necessary set, unknown where it is in the possible one alone, and
+-- false where it is in neither
 abbrev pub mark_of : Pair → ℕ → Mark
 mark_of p s = cond (p.necessary s) True (cond (p.possibly s) Unknown False)
 

@@ -20,7 +20,7 @@ pub trait LineParser {
         ensures { result ≡ complete self.now };
 }
 
-// The most bytes of a paper.
+// The most bytes of a paper, that is, of a text that is handed in.
 pub const LONGEST: usize = 32768;
 
 // Hands the lines of `text` to the parser until one is refused or the text ends.

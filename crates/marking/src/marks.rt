@@ -6,7 +6,7 @@ ghost use Rattle.marking.specs.Evaluated.{word_pair};
 use calculus::Mark;
 use sets::Set;
 
-// True inside the necessary set, false outside the possible one, else unknown.
+// True in the necessary set, unknown in the possible one alone, false in neither.
 pub fn mark_at(sets: (Set, Set), state: usize) -> Mark
     ensures { result ≡ mark_of (word_pair sets) state }
 {

@@ -1,47 +1,47 @@
-// Why a call says no. A call answers the first of these that applies, in this order, and changes
-// nothing then.
+// Why a call says no: of the reasons that hold, the one that stands first here. What the call was
+// made on is then as it was.
 ghost use Rattle.std.specs.Prelude.{◌≡◌};
 ghost use Rattle.systems.specs.Refusals.{number_of};
 
 #[derive(Clone, Copy, PartialEq, Eq, Debug)]
 pub enum Refusal {
-    // The text is longer than a paper may be, or the output buffer too short for a run.
+    // A paper with too many bytes, or a marking run with too few places for its output.
     Length,
-    // A line lacks the form that its place asks for, or the text ends early.
+    // This is not how a line looks here, or a line is due and there is none.
     Form,
-    // The count of states is 0, or more than this kind of system may have.
+    // No states, or more than such a system can hold.
     States,
-    // There are more than 8 actions or more than 8 lamps.
+    // Nine or more actions, or nine or more lamps.
     Letters,
-    // The start is not a state.
+    // The start is none of the states.
     Start,
-    // A state is not below the count of states of its system.
+    // A number that is too large for a state of that system.
     NoState,
-    // An action or a lamp is not below its count.
+    // A number that is too large for an action, or for a lamp.
     NoLetter,
-    // The move is drawn already, the light set already, or the pair named already.
+    // Said before: that move is there, that lamp is lit, that state or pair was named.
     Repeated,
-    // The move to confirm or to strike is not optional.
+    // Only an optional move is confirmed or struck.
     NotOptional,
-    // The light to decide is not unknown.
+    // Only an unknown lamp is decided.
     NotUnknown,
-    // The formula is empty or too long.
+    // A formula without bytes, or with too many.
     FormulaLength,
-    // The text as a whole is not a formula.
+    // No formula is spelled as this text.
     NotFormula,
-    // The formula names an action or a lamp that the frame lacks.
+    // An action or a lamp in the formula is not one of the frame's.
     ForeignLetter,
-    // A variable has no binder, or an odd number of negations up to it.
+    // A variable is free, or negated an odd number of times since its binder.
     Unbound,
-    // Too many binders stand within one another.
+    // Binders stand too deep.
     Nesting,
-    // The controller has no states, or other counts of actions or lamps than the frame.
+    // An empty controller, or one that counts its actions or lamps otherwise than the frame.
     Mismatch,
-    // The rows are not one for each controller state, or name a state that the frame lacks.
+    // Not one row to a state of the controller, or a row with a number that is no state.
     Rows,
-    // The relation is not a refinement that way.
+    // Some joined pair fails a clause of refinement.
     NotRefinement,
-    // A list is full, a buffer is too short, or there is a formula line too many.
+    // No place is left: in a list, in a buffer, or for one more formula.
     Full,
 }
 
