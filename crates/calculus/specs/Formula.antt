@@ -7,6 +7,8 @@ use Rattle.calculus.specs.declared.syntax.Leaf.TheVariants.{True, False, Lamp, V
 use Rattle.calculus.specs.declared.syntax.Prefix.{Prefix}
 use Rattle.calculus.specs.declared.syntax.Prefix.TheVariants.{Not, Diamond, Box, Least, Greatest}
 use Rattle.calculus.specs.declared.syntax.Binary.{Binary}
+use Rattle.calculus.specs.declared.syntax.Standing.{Standing}
+use Rattle.calculus.specs.declared.syntax.Standing.TheVariants.{Free, Even, Odd}
 
 pub data Formula : Type 0 where
   leaf : Leaf → Formula
@@ -28,20 +30,16 @@ same Z Z = true
 abbrev pub at_variable : {V : Type 0} → (Variable → V) → Variable → V → Variable → V
 at_variable e x v y = cond (same x y) v (e y)
 
--- How a variable stands to the place where it is read: under no binder of its own, or with an even
--- or an odd number of negations since the innermost one.
-pub data Standing : Type 0 where
-  unbound even odd : Standing
-
+-- how a variable stands under one negation more
 abbrev pub negated : Standing → Standing
-negated unbound = unbound
-negated even = odd
-negated odd = even
+negated Free = Free
+negated Even = Odd
+negated Odd = Even
 
 abbrev pub is_even : Standing → Bool
-is_even unbound = false
-is_even even = true
-is_even odd = false
+is_even Free = false
+is_even Even = true
+is_even Odd = false
 
 -- going up from any variable to what binds it, one meets negations an even number of times; the
 -- variables that the formula itself leaves free stand as e says
@@ -53,12 +51,12 @@ closed_under e (leaf (Var x)) = is_even (e x)
 closed_under e (prefix Not f) = closed_under (λ x. negated (e x)) f
 closed_under e (prefix (Diamond a) f) = closed_under e f
 closed_under e (prefix (Box a) f) = closed_under e f
-closed_under e (prefix (Least x) f) = closed_under (at_variable e x even) f
-closed_under e (prefix (Greatest x) f) = closed_under (at_variable e x even) f
+closed_under e (prefix (Least x) f) = closed_under (at_variable e x Even) f
+closed_under e (prefix (Greatest x) f) = closed_under (at_variable e x Even) f
 closed_under e (binary o f g) = closed_under e f && closed_under e g
 
 abbrev pub closed : Formula → Bool
-closed f = closed_under (λ x. unbound) f
+closed f = closed_under (λ x. Free) f
 
 -- the formula names only actions below k and lamps below n
 abbrev pub within_letters : ℕ → ℕ → Formula → Bool

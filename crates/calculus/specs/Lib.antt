@@ -1,3 +1,4 @@
 pub mod Formula
 pub mod Pairs
 pub mod Marks
+pub mod Environments

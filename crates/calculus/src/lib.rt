@@ -2,6 +2,8 @@
 // moves. The meaning is a definition, in specs/: nothing here computes it.
 #![tactic(auto)]
 
+mod environment;
 mod syntax;
 
-pub use syntax::{Binary, Leaf, Mark, Prefix, Variable};
+pub use environment::Environment;
+pub use syntax::{Binary, Leaf, Mark, Prefix, Standing, Variable};

@@ -1,3 +1,4 @@
+// A case, and the calls that tighten its frame.
 ghost use Rattle.std.specs.Prelude.{◌≡◌};
 ghost use Rattle.cases.specs.Tightenings.{move_answer, lamp_answer};
 ghost use Rattle.frames.specs.Frames.{meaning_of, draft_meaning};
@@ -7,7 +8,7 @@ ghost use Rattle.systems.specs.Words.{shown};
 ghost use Rattle.systems.specs.declared.kinds.Kind.TheVariants.{Absent, Certain};
 
 use frames::{Draft, Frame};
-use systems::{Kind, Refusal, Setting, System};
+use systems::{Kind, LampAt, Move, Refusal, Setting, System};
 
 // A frame opened over a controller, which is any system and is only asked.
 #[derive(Drop)]
@@ -36,74 +37,47 @@ impl<C: System> Case<C> {
     }
 
     // Makes an optional move certain.
-    pub fn confirm(&mut self, from: usize, action: usize, to: usize) -> Result<(), Refusal>
-        ensures answer { result ≡ move_answer (meaning_of self.old.frame) from action to }
-        ensures after { meaning_of self.new.frame ≡ after result (with_move (meaning_of self.old.frame) from action to Certain) (meaning_of self.old.frame) }
+    pub fn confirm(&mut self, at: Move) -> Result<(), Refusal>
+        ensures answer { result ≡ move_answer (meaning_of self.old.frame) at.from at.action at.to }
+        ensures after { meaning_of self.new.frame ≡ after result (with_move (meaning_of self.old.frame) at.from at.action at.to Certain) (meaning_of self.old.frame) }
         ensures controller { self.new.controller ≡ self.old.controller }
     {
-        tighten(&mut self.frame, from, action, to, Kind::Certain)
+        tighten(&mut self.frame, at, Kind::Certain)
     }
 
     // Makes an optional move absent, and touches no other.
-    pub fn strike(&mut self, from: usize, action: usize, to: usize) -> Result<(), Refusal>
-        ensures answer { result ≡ move_answer (meaning_of self.old.frame) from action to }
-        ensures after { meaning_of self.new.frame ≡ after result (with_move (meaning_of self.old.frame) from action to Absent) (meaning_of self.old.frame) }
+    pub fn strike(&mut self, at: Move) -> Result<(), Refusal>
+        ensures answer { result ≡ move_answer (meaning_of self.old.frame) at.from at.action at.to }
+        ensures after { meaning_of self.new.frame ≡ after result (with_move (meaning_of self.old.frame) at.from at.action at.to Absent) (meaning_of self.old.frame) }
         ensures controller { self.new.controller ≡ self.old.controller }
     {
-        tighten(&mut self.frame, from, action, to, Kind::Absent)
+        tighten(&mut self.frame, at, Kind::Absent)
     }
 
     // Turns an unknown lamp of a state on or off.
-    pub fn decide(&mut self, state: usize, lamp: usize, setting: Setting) -> Result<(), Refusal>
-        ensures answer { result ≡ lamp_answer (meaning_of self.old.frame) state lamp }
-        ensures after { meaning_of self.new.frame ≡ after result (with_light (meaning_of self.old.frame) state lamp (shown setting)) (meaning_of self.old.frame) }
+    pub fn decide(&mut self, at: LampAt, setting: Setting) -> Result<(), Refusal>
+        ensures answer { result ≡ lamp_answer (meaning_of self.old.frame) at.state at.lamp }
+        ensures after { meaning_of self.new.frame ≡ after result (with_light (meaning_of self.old.frame) at.state at.lamp (shown setting)) (meaning_of self.old.frame) }
         ensures controller { self.new.controller ≡ self.old.controller }
     {
-        turn(&mut self.frame, state, lamp, setting)
+        self.frame.sizes().check_lamp(at)?;
+        if self.frame.light(at).is_known() {
+            return Err(Refusal::NotUnknown);
+        }
+        self.frame.set_light(at, setting.into());
+        Ok(())
     }
 }
 
 // Gives an optional move of a frame another kind.
-fn tighten(
-    frame: &mut Frame,
-    from: usize,
-    action: usize,
-    to: usize,
-    kind: Kind,
-) -> Result<(), Refusal>
-    ensures answer { result ≡ move_answer (meaning_of frame.old) from action to }
-    ensures after { meaning_of frame.new ≡ after result (with_move (meaning_of frame.old) from action to kind) (meaning_of frame.old) }
+fn tighten(frame: &mut Frame, at: Move, kind: Kind) -> Result<(), Refusal>
+    ensures answer { result ≡ move_answer (meaning_of frame.old) at.from at.action at.to }
+    ensures after { meaning_of frame.new ≡ after result (with_move (meaning_of frame.old) at.from at.action at.to kind) (meaning_of frame.old) }
 {
-    let sizes = frame.sizes();
-    if from >= sizes.states || to >= sizes.states {
-        return Err(Refusal::NoState);
+    frame.sizes().check_move(at)?;
+    if !frame.kind(at).is_optional() {
+        return Err(Refusal::NotOptional);
     }
-    if action >= sizes.actions {
-        return Err(Refusal::NoLetter);
-    }
-    if frame.kind(from, action, to).is_optional() {
-        frame.set_move(from, action, to, kind);
-        Ok(())
-    } else {
-        Err(Refusal::NotOptional)
-    }
-}
-
-// Turns an unknown lamp of a frame's state.
-fn turn(frame: &mut Frame, state: usize, lamp: usize, setting: Setting) -> Result<(), Refusal>
-    ensures answer { result ≡ lamp_answer (meaning_of frame.old) state lamp }
-    ensures after { meaning_of frame.new ≡ after result (with_light (meaning_of frame.old) state lamp (shown setting)) (meaning_of frame.old) }
-{
-    let sizes = frame.sizes();
-    if state >= sizes.states {
-        return Err(Refusal::NoState);
-    }
-    if lamp >= sizes.lamps {
-        return Err(Refusal::NoLetter);
-    }
-    if frame.light(state, lamp).is_known() {
-        return Err(Refusal::NotUnknown);
-    }
-    frame.set_light(state, lamp, setting.light());
+    frame.set_move(at, kind);
     Ok(())
 }

@@ -6,7 +6,6 @@ ghost use Rattle.frames.specs.Frames.{meaning_of};
 use crate::case::Case;
 use calculus::Mark;
 use formulas::Sentence;
-use frames::Frame;
 use marking::{evaluate, mark_at};
 use sets::Set;
 use systems::{Refusal, System};
@@ -16,35 +15,18 @@ impl<C: System> Case<C> {
     pub fn sets(&self, formula: &[u8]) -> Result<(Set, Set), Refusal>
         ensures { SetsAnswer (meaning_of self.now.frame) formula.now result }
     {
-        frame_sets(&self.frame, formula)
+        let sizes = self.frame.sizes();
+        let sentence = Sentence::read(formula, sizes.actions, sizes.lamps)?;
+        Ok(evaluate(&sentence, &self.frame))
     }
 
     // The mark of a frame state by a formula.
     pub fn mark(&self, state: usize, formula: &[u8]) -> Result<Mark, Refusal>
         ensures { MarkAnswer (meaning_of self.now.frame) state formula.now result }
     {
-        frame_mark(&self.frame, state, formula)
-    }
-}
-
-fn frame_sets(frame: &Frame, formula: &[u8]) -> Result<(Set, Set), Refusal>
-    ensures { SetsAnswer (meaning_of frame.now) formula.now result }
-{
-    let sizes = frame.sizes();
-    match Sentence::read(formula, sizes.actions, sizes.lamps) {
-        Ok(sentence) => Ok(evaluate(&sentence, frame)),
-        Err(e) => Err(e),
-    }
-}
-
-fn frame_mark(frame: &Frame, state: usize, formula: &[u8]) -> Result<Mark, Refusal>
-    ensures { MarkAnswer (meaning_of frame.now) state formula.now result }
-{
-    if state >= frame.sizes().states {
-        return Err(Refusal::NoState);
-    }
-    match frame_sets(frame, formula) {
-        Ok(sets) => Ok(mark_at(sets, state)),
-        Err(e) => Err(e),
+        if state >= self.frame.sizes().states {
+            return Err(Refusal::NoState);
+        }
+        Ok(mark_at(self.sets(formula)?, state))
     }
 }

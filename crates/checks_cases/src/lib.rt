@@ -8,7 +8,16 @@ mod tests {
     use frames::{Draft, Frame};
     use std::process::Abort;
     use std::test::Fail;
-    use systems::Setting;
+    use systems::{LampAt, Move, Setting};
+
+    // The optional move of the sample, and its unknown lamp.
+    const MOVE: Move = Move {
+        from: 0,
+        action: 0,
+        to: 1,
+    };
+
+    const LAMP: LampAt = LampAt { state: 1, lamp: 0 };
 
     // Two states, one action and one lamp: 0 a 1 optional, 1 a 1 certain, and p off at 0.
     fn sample(rt: &impl Abort) -> Case<Frame> {
@@ -45,7 +54,7 @@ mod tests {
         match case.mark(state, formula) {
             Ok(_) => Err(Fail::new("marked")),
             Err(e) => {
-                assert_eq!(rt; e.number(), number);
+                assert_eq!(rt; u8::from(e), number);
                 Ok(())
             },
         }
@@ -96,12 +105,12 @@ mod tests {
     #[test]
     fn confirmed(rt: HostRuntime) -> Result<(), Fail> {
         let mut case = sample(&rt);
-        assert!(rt; case.confirm(0, 0, 1).is_ok());
+        assert!(rt; case.confirm(MOVE).is_ok());
         marked(&rt, &case, 0, b"<a>T", Mark::True)?;
-        match case.strike(0, 0, 1) {
+        match case.strike(MOVE) {
             Ok(()) => Err(Fail::new("struck")),
             Err(e) => {
-                assert_eq!(rt; e.number(), 9);
+                assert_eq!(rt; u8::from(e), 9);
                 Ok(())
             },
         }
@@ -110,15 +119,15 @@ mod tests {
     #[test]
     fn struck(rt: HostRuntime) -> Result<(), Fail> {
         let mut case = sample(&rt);
-        assert!(rt; case.strike(0, 0, 1).is_ok());
+        assert!(rt; case.strike(MOVE).is_ok());
         marked(&rt, &case, 0, b"<a>T", Mark::False)?;
         marked(&rt, &case, 1, b"<a>T", Mark::True)?;
-        assert!(rt; case.decide(1, 0, Setting::On).is_ok());
+        assert!(rt; case.decide(LAMP, Setting::On).is_ok());
         marked(&rt, &case, 1, b"p", Mark::True)?;
-        match case.decide(1, 0, Setting::Off) {
+        match case.decide(LAMP, Setting::Off) {
             Ok(()) => Err(Fail::new("decided twice")),
             Err(e) => {
-                assert_eq!(rt; e.number(), 10);
+                assert_eq!(rt; u8::from(e), 10);
                 Ok(())
             },
         }

@@ -6,7 +6,15 @@ mod tests {
     use frames::Draft;
     use std::process::Abort;
     use std::test::Fail;
-    use systems::{Builder, Modality, Setting, Sizes};
+    use systems::{Builder, LampAt, Modality, Move, Setting, Sizes};
+
+    const MOVE: Move = Move {
+        from: 0,
+        action: 0,
+        to: 2,
+    };
+
+    const LAMP: LampAt = LampAt { state: 0, lamp: 0 };
 
     // Two states, one action and one lamp: one move optional, one certain, one light off.
     fn sample() -> &'static [u8] {
@@ -18,7 +26,7 @@ mod tests {
         match listings::read(&mut draft, text) {
             Ok(()) => Err(Fail::new("read")),
             Err(e) => {
-                assert_eq!(rt; e.refusal.number(), number);
+                assert_eq!(rt; u8::from(e.refusal), number);
                 assert_eq!(rt; e.line, line);
                 Ok(())
             }
@@ -98,13 +106,22 @@ mod tests {
     }
 
     #[test]
+    fn the_listing_of_a_draft(rt: HostRuntime) -> Result<(), Fail> {
+        let mut draft = Draft::new();
+        assert!(rt; listings::read(&mut draft, sample()).is_ok());
+        let text = output::listing(rt.alloc(), &draft)?;
+        assert!(rt; text.as_slice() == sample());
+        Ok(())
+    }
+
+    #[test]
     fn a_short_buffer_is_left_alone(rt: HostRuntime) -> Result<(), Fail> {
         let mut draft = Draft::new();
         assert!(rt; listings::read(&mut draft, sample()).is_ok());
         let mut out = vec![in rt.alloc(); 7u8; 130]?;
         match listings::write(&draft, &mut out) {
             Ok(_) => return Err(Fail::new("written")),
-            Err(refusal) => assert_eq!(rt; refusal.number(), 19),
+            Err(refusal) => assert_eq!(rt; u8::from(refusal), 19),
         }
         assert!(rt; out.len() == 130);
         assert_eq!(rt; out[0], 7);
@@ -176,11 +193,11 @@ mod tests {
             start: 2,
         };
         assert!(rt; draft.size(sizes).is_ok());
-        assert!(rt; draft.draw(0, 0, 2, Modality::Must).is_ok());
+        assert!(rt; draft.draw(MOVE, Modality::Must).is_ok());
         assert!(rt; listings::read(&mut draft, b"states actions lamps start\n2 1 1 0\n").is_err());
         assert_eq!(rt; listings::room(&draft), 97);
-        assert!(rt; draft.draw(0, 0, 2, Modality::May).is_err());
-        assert!(rt; draft.light(0, 0, Setting::On).is_err());
+        assert!(rt; draft.draw(MOVE, Modality::May).is_err());
+        assert!(rt; draft.light(LAMP, Setting::On).is_err());
     }
 
     #[test]

@@ -1,20 +1,26 @@
-// What lists are filled with before a table is written into them.
-use systems::{Modality, Setting};
-use tables::{LightEntry, MoveEntry};
+// What lists are filled with before a table is written into them, and short forms of places.
+use systems::{Entry, LampAt, LightEntry, Modality, Move, MoveEntry, Setting};
 
 pub(crate) fn no_move() -> MoveEntry {
-    MoveEntry {
-        from: 0,
-        action: 0,
-        to: 0,
-        modality: Modality::May,
+    Entry {
+        at: on(0, 0, 0),
+        value: Modality::May,
     }
 }
 
 pub(crate) fn no_light() -> LightEntry {
-    LightEntry {
-        state: 0,
-        lamp: 0,
-        setting: Setting::Off,
+    Entry {
+        at: lamp(0, 0),
+        value: Setting::Off,
     }
+}
+
+// The move from one state on an action to another.
+pub(crate) fn on(from: usize, action: usize, to: usize) -> Move {
+    Move { from, action, to }
+}
+
+// A lamp of a state.
+pub(crate) fn lamp(state: usize, lamp: usize) -> LampAt {
+    LampAt { state, lamp }
 }

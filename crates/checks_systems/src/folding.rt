@@ -1,8 +1,8 @@
 // A fold of a small system, and a draft that takes over either.
-use crate::entries::{no_light, no_move};
+use crate::entries::{lamp, no_light, no_move, on};
 use folds::{Classes, Fold};
 use frames::Draft;
-use systems::{Kind, Light, Modality, Refusal, Setting, Sizes, System};
+use systems::{Builder, Kind, Light, Modality, Refusal, Setting, Sizes, System};
 use tables::Table;
 
 // Moves from 0 and from 2 to 2, and a lamp that is on in 2 alone.
@@ -13,11 +13,11 @@ fn fill(table: &mut Table) -> Result<(), Refusal> {
         lamps: 1,
         start: 0,
     })?;
-    table.draw(0, 0, 2, Modality::Must)?;
-    table.draw(2, 0, 2, Modality::Must)?;
-    table.light(0, 0, Setting::Off)?;
-    table.light(1, 0, Setting::Off)?;
-    table.light(2, 0, Setting::On)
+    table.draw(on(0, 0, 2), Modality::Must)?;
+    table.draw(on(2, 0, 2), Modality::Must)?;
+    table.light(lamp(0, 0), Setting::Off)?;
+    table.light(lamp(1, 0), Setting::Off)?;
+    table.light(lamp(2, 0), Setting::On)
 }
 
 // 0 and 1 are class 0, and 2 is class 1.
@@ -36,12 +36,12 @@ fn a_fold_of_three_states(rt: HostRuntime) {
     let fold = Fold::new(table.finish(), pairs(), 3);
     for from in 0..3 {
         for to in 0..3 {
-            assert_eq!(rt; fold.kind(from, 0, to), expected(from, to));
+            assert_eq!(rt; fold.kind(on(from, 0, to)), expected(from, to));
         }
     }
-    assert_eq!(rt; fold.light(0, 0), Light::Off);
-    assert_eq!(rt; fold.light(1, 0), Light::On);
-    assert_eq!(rt; fold.light(2, 0), Light::Unknown);
+    assert_eq!(rt; fold.light(lamp(0, 0)), Light::Off);
+    assert_eq!(rt; fold.light(lamp(1, 0)), Light::On);
+    assert_eq!(rt; fold.light(lamp(2, 0)), Light::Unknown);
 }
 
 fn expected(from: usize, to: usize) -> Kind {

@@ -1,8 +1,8 @@
 // The most states and moves of a table, and the counts of classes that a fold takes.
-use crate::entries::{no_light, no_move};
+use crate::entries::{no_light, no_move, on};
 use folds::{Classes, Fold};
 use std::process::Abort;
-use systems::{Modality, Refusal, Sizes, System};
+use systems::{Builder, Modality, Refusal, Sizes, System};
 use tables::Table;
 
 fn of_states(states: usize) -> Sizes {
@@ -26,7 +26,7 @@ fn a_table_has_up_to_256_states(rt: HostRuntime) {
 // Draws a move from each state on action 0 to the state `to`.
 fn draw_to(rt: &impl Abort, table: &mut Table, to: usize) {
     for from in 0..256 {
-        assert_eq!(rt; table.draw(from, 0, to, Modality::May), Ok(()));
+        assert_eq!(rt; table.draw(on(from, 0, to), Modality::May), Ok(()));
     }
 }
 
@@ -39,7 +39,10 @@ fn a_table_has_up_to_2048_moves(rt: HostRuntime) {
     for to in 0..8 {
         draw_to(&rt, &mut table, to);
     }
-    assert_eq!(rt; table.draw(255, 0, 8, Modality::Must), Err(Refusal::Full));
+    assert_eq!(rt;
+        table.draw(on(255, 0, 8), Modality::Must),
+        Err(Refusal::Full)
+    );
 }
 
 // How many states the fold of a system of 256 states has.

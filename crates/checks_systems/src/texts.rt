@@ -12,7 +12,7 @@ fn answer(text: &[u8]) -> (u8, usize) {
     let mut draft = Draft::new();
     match quotients::quotient(text, &mut moves, &mut lights, &mut draft) {
         Ok(()) => (0, 0),
-        Err(e) => (e.refusal.number(), e.line),
+        Err(e) => (u8::from(e.refusal), e.line),
     }
 }
 

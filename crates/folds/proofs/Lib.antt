@@ -1,4 +1,3 @@
-pub mod Turns
+pub mod Listed
 pub mod Refined
-pub mod Rows
 pub mod Joined

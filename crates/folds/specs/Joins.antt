@@ -10,7 +10,9 @@ use Rattle.folds.specs.Readings.{Exact, RefinedByClass}
 
 -- a fold with states, and a row for each state of the system
 abbrev pub join_answer : Meaning → List ℕ → ℕ → ℕ → Answer
-join_answer M cs count rows = cond (states (fold_meaning M cs count) == 0) (Err Mismatch) (cond (rows == states M) (Ok tt) (Err Rows))
+join_answer M cs count rows =
+    cond (states (fold_meaning M cs count) == 0) (Err Mismatch)
+    (cond (rows == states M) (Ok tt) (Err Rows))
 
 -- each row holds just the class of its state
 abbrev pub RowsOf : List ℕ → List Set → Type 0

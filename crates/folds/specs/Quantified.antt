@@ -1,58 +1,37 @@
 -- The tests over the members of a class, with quantifiers.
-use Rattle.std.specs.Prelude.{◌≡◌, ℕ, Bool, true, false, not, ◌&&◌, ◌||◌, List, ◌==◌, ◌≢◌, nat_lt, refl}
-use Rattle.std.proofs.lemmas.Bool.{false≢true, and_parts, and_from, ltb-true, lt-ltb, eqb-true, eq-eqb, ne_eqb, and_right}
+use Rattle.std.specs.Prelude.{ℕ, Bool, true, false, not, ◌||◌, List, Decides, refl}
+use Rattle.std.proofs.lemmas.Bool.{false≢true}
+use Rattle.std.proofs.lemmas.Bool.Decides.{Decides-and, Decides-like, Decides-ltb, Decides-eqb}
+use Rattle.systems.proofs.Bounded.{any_decides, all_decides}
 use Rattle.systems.specs.Meaning.{Meaning, states}
 use Rattle.systems.specs.declared.kinds.Kind.{Kind}
-use Rattle.systems.proofs.Bounded.{any_from, any_to, all_from, all_to}
 use Rattle.folds.specs.Folds.{class_of, member, enters, some_member, every_member}
 use Rattle.folds.specs.Readings.{Member, Enters}
 
--- `not a || b` as an implication
-implied : (a b : Bool) → (not a || b) ≡ true → a ≡ true → b ≡ true
-implied true b h e = h
-implied false b h e = absurd (false≢true e)
-
-implies : (a b : Bool) → (a ≡ true → b ≡ true) → (not a || b) ≡ true
-implies true b h = h refl
-implies false b h = refl
+implies : {P Q : Type 0} (a b : Bool) → Decides a P → Decides b Q → Decides (not a || b) (P → Q)
+implies true b p q = (λ h _. q.0 h, λ f. q.1 (f (p.0 refl)))
+implies false b p q = (λ _ x. absurd (false≢true (p.1 x)), λ _. refl)
 
 module _ (M : Meaning) (cs : List ℕ) where
-  pub member_to : (a s : ℕ) → member M cs a s ≡ true → Member M cs a s
-  member_to a s h =
-      let p = and_parts (nat_lt s (states M)) (class_of cs s == a) h in
-      record { state = ltb-true s (states M) p.0; class = eqb-true (class_of cs s) a p.1 }
+  member_decides : (a s : ℕ) → Decides (member M cs a s) (Member M cs a s)
+  member_decides a s =
+      let parts = Decides-and _ _ (Decides-ltb s (states M)) (Decides-eqb (class_of cs s) a) in
+      Decides-like _ (λ p. record { state = p.0; class = p.1 }) (λ m. (m.state, m.class)) parts
 
-  pub member_from : (a s : ℕ) → Member M cs a s → member M cs a s ≡ true
-  member_from a s m =
-      and_from (nat_lt s (states M)) (class_of cs s == a) (lt-ltb s (states M) m.state) (eq-eqb (class_of cs s) a m.class)
+  pub enters_decides : (test : Kind → Bool) (s x b : ℕ) → Decides (enters test M cs s x b) (Enters test M cs s x b)
+  enters_decides test s x b =
+      let each = λ (t : ℕ). Decides-and (test (M.kind s x t)) _ (λ h. h, λ h. h) (member_decides b t) in
+      let found = any_decides _ _ each (states M) in
+      Decides-like _ (λ f. record { target = f.0; move = f.2.0; inside = f.2.1 })
+      (λ e. (e.target, e.inside.state, (e.move, e.inside))) found
 
-  pub member_not : (a s : ℕ) → (class_of cs s ≢ a) → member M cs a s ≡ false
-  member_not a s h = and_right (nat_lt s (states M)) (class_of cs s == a) (ne_eqb (class_of cs s) a h)
+  module _ (a : ℕ) (p : ℕ → Bool) (P : ℕ → Type 0) (each : (s : ℕ) → Decides (p s) (P s)) where
+    pub some_decides : Decides (some_member M cs a p) ((s : ℕ) × Member M cs a s × P s)
+    some_decides =
+        let found = any_decides _ _ (λ s. Decides-and _ _ (member_decides a s) (each s)) (states M) in
+        Decides-like _ (λ f. (f.0, f.2.0, f.2.1)) (λ f. (f.0, f.1.state, (f.1, f.2))) found
 
-  pub enters_to : (test : Kind → Bool) (s x b : ℕ) → enters test M cs s x b ≡ true → Enters test M cs s x b
-  enters_to test s x b h =
-      let found = any_to (states M) (λ t. test (M.kind s x t) && member M cs b t) h in
-      let t = found.0 in
-      let p = and_parts (test (M.kind s x t)) (member M cs b t) found.2 in
-      record { target = t; move = p.0; inside = member_to b t p.1 }
-
-  pub enters_from : (test : Kind → Bool) (s x b : ℕ) → Enters test M cs s x b → enters test M cs s x b ≡ true
-  enters_from test s x b e =
-      any_from (states M) (λ t. test (M.kind s x t) && member M cs b t) e.target e.inside.state (and_from (test (M.kind s x e.target)) (member M cs b e.target) e.move (member_from b e.target e.inside))
-
-  pub some_to : (a : ℕ) (p : ℕ → Bool) → some_member M cs a p ≡ true → (s : ℕ) × Member M cs a s × (p s ≡ true)
-  some_to a p h =
-      let found = any_to (states M) (λ s. member M cs a s && p s) h in
-      let s = found.0 in
-      let both = and_parts (member M cs a s) (p s) found.2 in
-      (s, member_to a s both.0, both.1)
-
-  pub some_from : (a : ℕ) (p : ℕ → Bool) (s : ℕ) → Member M cs a s → p s ≡ true → some_member M cs a p ≡ true
-  some_from a p s m h = any_from (states M) (λ k. member M cs a k && p k) s m.state (and_from (member M cs a s) (p s) (member_from a s m) h)
-
-  pub every_to : (a : ℕ) (p : ℕ → Bool) → every_member M cs a p ≡ true → (s : ℕ) → Member M cs a s → p s ≡ true
-  every_to a p h s m =
-      implied (member M cs a s) (p s) (all_to (states M) (λ k. not (member M cs a k) || p k) h s m.state) (member_from a s m)
-
-  pub every_from : (a : ℕ) (p : ℕ → Bool) → ((s : ℕ) → Member M cs a s → p s ≡ true) → every_member M cs a p ≡ true
-  every_from a p h = all_from (states M) (λ k. not (member M cs a k) || p k) (λ s lt. implies (member M cs a s) (p s) (λ e. h s (member_to a s e)))
+    pub every_decides : Decides (every_member M cs a p) ((s : ℕ) → Member M cs a s → P s)
+    every_decides =
+        let held = all_decides _ _ (λ s. implies (member M cs a s) (p s) (member_decides a s) (each s)) (states M) in
+        Decides-like _ (λ f s m. f s m.state m) (λ f s _ m. f s m) held

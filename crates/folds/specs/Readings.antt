@@ -23,10 +23,15 @@ pub record Abstraction (M : Meaning) (cs : List ℕ) (count : ℕ) (F : Meaning)
   pub actions : F.sizes.actions ≡ M.sizes.actions
   pub lamps : F.sizes.lamps ≡ M.sizes.lamps
   pub start : F.sizes.start ≡ class_of cs M.sizes.start
-  pub possible_moves : (a x b : ℕ) → (possible (F.kind a x b) ≡ true) ↔ ((s : ℕ) × Member M cs a s × Enters possible M cs s x b)
-  pub certain_moves : (a x b : ℕ) → (certain (F.kind a x b) ≡ true) ↔ ((possible (F.kind a x b) ≡ true) × ((s : ℕ) → Member M cs a s → Enters certain M cs s x b))
-  pub lamps_on : (a l : ℕ) → (F.light a l ≡ On) ↔ (((s : ℕ) × Member M cs a s) × ((s : ℕ) → Member M cs a s → M.light s l ≡ On))
-  pub lamps_off : (a l : ℕ) → (F.light a l ≡ Off) ↔ (((s : ℕ) × Member M cs a s) × ((s : ℕ) → Member M cs a s → M.light s l ≡ Off))
+  pub possible_moves : (a x b : ℕ) →
+      (possible (F.kind a x b) ≡ true) ↔ ((s : ℕ) × Member M cs a s × Enters possible M cs s x b)
+  pub certain_moves : (a x b : ℕ) →
+      (certain (F.kind a x b) ≡ true)
+      ↔ ((possible (F.kind a x b) ≡ true) × ((s : ℕ) → Member M cs a s → Enters certain M cs s x b))
+  pub lamps_on : (a l : ℕ) →
+      (F.light a l ≡ On) ↔ (((s : ℕ) × Member M cs a s) × ((s : ℕ) → Member M cs a s → M.light s l ≡ On))
+  pub lamps_off : (a l : ℕ) →
+      (F.light a l ≡ Off) ↔ (((s : ℕ) × Member M cs a s) × ((s : ℕ) → Member M cs a s → M.light s l ≡ Off))
 
 -- where the map is one, the fold is the abstraction, and joining every state to its class is a
 -- refinement of the fold by the system
@@ -34,4 +39,5 @@ abbrev pub Exact : Meaning → List ℕ → ℕ → Type 0
 Exact M cs count = is_map M cs count ≡ true → Abstraction M cs count (fold_meaning M cs count)
 
 abbrev pub RefinedByClass : Meaning → List ℕ → ℕ → Type 0
-RefinedByClass M cs count = is_map M cs count ≡ true → Refines M (fold_meaning M cs count) (λ c a. nat_eq (class_of cs c) a)
+RefinedByClass M cs count =
+    is_map M cs count ≡ true → Refines M (fold_meaning M cs count) (λ c a. nat_eq (class_of cs c) a)

@@ -1,7 +1,8 @@
 // A map of states to classes.
-ghost use Rattle.std.specs.Prelude.{◌≡◌};
+ghost use Rattle.std.specs.Prelude.{◌≡◌, nat_lt};
+ghost use Rattle.std.specs.List.{list_all};
 ghost use Rattle.folds.specs.Folds.{class_of};
-ghost use Rattle.folds.specs.Maps.{each_below, are_classes};
+ghost use Rattle.folds.specs.Maps.{are_classes};
 
 use sets::WIDTH;
 
@@ -16,31 +17,20 @@ impl Classes {
     pub(crate) fn class_of(&self, state: usize) -> usize
         ensures { result ≡ class_of self.now.of state }
     {
-        if state < 256 {
-            self.of[state] as usize
-        } else {
-            0
-        }
+        self.of.get(state).map_or(0, |class| usize::from(*class))
     }
 
     // Whether there may be `count` classes, and each is below that.
+    #[tactic(auto, using(crate::proofs::Listed::are_classes_listed))]
     pub(crate) fn are_below(&self, count: usize) -> bool
         ensures { result ≡ are_classes self.now.of count }
     {
-        if 1 <= count && count <= WIDTH {
-            each_below(self, count)
-        } else {
-            false
-        }
+        (1..=WIDTH).contains(&count) && self.each_below(count)
     }
-}
 
-fn each_below(classes: &Classes, count: usize) -> bool
-    ensures { result ≡ each_below classes.now.of count }
-{
-    let mut each = true;
-    for state in 0..256 {
-        each &= classes.class_of(state) < count;
+    fn each_below(&self, count: usize) -> bool
+        ensures { result ≡ list_all (λ class. nat_lt class count) self.now.of }
+    {
+        self.of.iter().all(|class| usize::from(*class) < count)
     }
-    each
 }

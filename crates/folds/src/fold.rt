@@ -1,8 +1,11 @@
 // A system with its states put together into classes.
-ghost use Rattle.std.specs.Prelude.{◌≡◌};
+ghost use Rattle.std.specs.Prelude.{◌≡◌, is_some, IfSome};
+ghost use Rattle.folds.specs.Folds.{is_map};
 ghost use Rattle.folds.specs.Maps.{are_classes};
 
 use crate::classes::Classes;
+use crate::members::Members;
+use systems::{Measured, System};
 
 // The fold has no states where `count` is not from 1 to 64, where some class is not below it, or
 // where the system has none.
@@ -29,6 +32,25 @@ impl<S> Fold<S> {
             classes,
             count,
             fits,
+        }
+    }
+}
+
+impl<S: System> Fold<S> {
+    // The members of the classes, where these are a map of the system.
+    pub(crate) fn members(&self) -> Option<Members<'_, S>>
+        ensures map { is_some result ≡ is_map (S.System.meaning self.now.system) self.now.classes.of self.now.count }
+        ensures system { IfSome result (λ members. members.below.system.now ≡ self.now.system) }
+        ensures classes { IfSome result (λ members. members.classes.now ≡ self.now.classes) }
+    {
+        let below = Measured::of(&self.system);
+        if self.fits && 1 <= below.sizes.states {
+            Some(Members {
+                below,
+                classes: &self.classes,
+            })
+        } else {
+            None
         }
     }
 }

@@ -5,6 +5,4 @@ pub mod Steps
 pub mod Refused
 pub mod Made
 pub mod Wholes
-pub mod Computed
-pub mod Prefixes
-pub mod Answered
+pub mod Reading

@@ -1,9 +1,9 @@
 -- A node's formula from those of the nodes before it.
-use Rattle.std.proofs.Common.{◌≡◌, ℕ, zero, suc, ◌<◌, ◌≤◌, cond, eqb, ◌≢◌, List, length, get_or, set, Some, None, Option, sym, refl, ap, ◌∙◌, ⊎_elim, arith}
+use Rattle.std.proofs.Common.{◌≡◌, ℕ, zero, suc, ◌<◌, ◌≤◌, cond, eqb, ◌≢◌, List, length, get_or, set, true, false, is_some, Some, None, Option, sym, refl, ap, ap₂, ◌∙◌, ⊎_elim, arith}
 use mathlib.Core.Path.{fun_ext}
 use Rattle.std.proofs.lemmas.List.{get_or-set_same, get_or-set_other}
-use Rattle.std.proofs.lemmas.Bool.{cases_eq, cases_lt, eq-eqb, ne_eqb, cond-true, cond-false}
-use Rattle.std.specs.Option.{option_map}
+use Rattle.std.proofs.lemmas.Bool.{cases_eq, cases_lt, eq-eqb, ne_eqb, cond-true, cond-false, both_ways}
+use Rattle.std.specs.Option.{option_map, unwrap_or}
 use Rattle.calculus.specs.Formula.{Formula, leaf, prefix, binary}
 use Rattle.calculus.specs.declared.syntax.Binary.{Binary}
 use Rattle.calculus.specs.declared.syntax.Prefix as prefixes
@@ -12,6 +12,7 @@ use Rattle.calculus.specs.declared.syntax.Leaf.TheVariants.{True}
 use Rattle.formulas.specs.declared.node.Node.{Node}
 use Rattle.formulas.specs.declared.node.Node.TheVariants.{Leaf, Prefix, Binary as Fork}
 use Rattle.formulas.specs.Nodes.{joined, built, formulas_below, formula_at}
+use Rattle.formulas.specs.Sentences.{Formed}
 
 -- nodes that agree below n stand for the same formulas there
 pub same_below : (n : ℕ) (ns ms : List Node) → ((k : ℕ) → k < n → get_or ns k (Leaf True) ≡ get_or ms k (Leaf True)) → formulas_below ns n ≡ formulas_below ms n
@@ -52,36 +53,35 @@ module _ (ns : List Node) (i : ℕ) (fits : i < length ns) where
   pub fork_written : (o : Binary) (j k : ℕ) (f g : Formula) → j < i → k < i → formula_at ns j ≡ Some f → formula_at ns k ≡ Some g → formula_at (set ns i (Fork o j k)) i ≡ Some (binary o f g)
   fork_written o j k f g l m d e = written (Fork o j k) ∙ (λ z. joined o ((below_at ns i j l ∙ d) z) ((below_at ns i k m ∙ e) z))
 
+-- a formula that is made of others is there only if they are
+mapped_some : (p : prefixes.Prefix) (x : Option Formula) → is_some (option_map (prefix p) x) ≡ true → (is_some x ≡ true) × (unwrap_or (option_map (prefix p) x) (leaf True) ≡ prefix p (unwrap_or x (leaf True)))
+mapped_some p None h = absurd (both_ways false refl h)
+mapped_some p (Some f) h = (refl, refl)
+
+joined_some : (o : Binary) (x y : Option Formula) → is_some (joined o x y) ≡ true → (is_some x ≡ true) × (is_some y ≡ true) × (unwrap_or (joined o x y) (leaf True) ≡ binary o (unwrap_or x (leaf True)) (unwrap_or y (leaf True)))
+joined_some o None y h = absurd (both_ways false refl h)
+joined_some o (Some f) None h = absurd (both_ways false refl h)
+joined_some o (Some f) (Some g) h = (refl, refl, refl)
+
 -- what is known of a node that stands for a formula
-module _ (ns : List Node) (i : ℕ) (f : Formula) (stands : formula_at ns i ≡ Some f) where
-  below_some : (j : ℕ) (g : Formula) → formulas_below ns i j ≡ Some g → (j < i) × (formula_at ns j ≡ Some g)
-  below_some j g e =
-      ⊎_elim (λ l. (l, sym (below_at ns i j l) ∙ e)) (λ past. let none = below_past ns i j past in let z : ◌≡◌ {A = ℕ} 0 1 = cc in absurd (omega arith)) (cases_lt j i)
+module _ (ns : List Node) (i : ℕ) (formed : Formed ns i) where
+  made : (n : Node) → get_or ns i (Leaf True) ≡ n → formula_at ns i ≡ built n (formulas_below ns i)
+  made n e = at_built ns i ∙ ap (λ m. built m (formulas_below ns i)) e
 
-  pub leaf_part : (l : leaves.Leaf) → get_or ns i (Leaf True) ≡ Leaf l → f ≡ leaf l
-  leaf_part l e = let b : formula_at ns i ≡ Some (leaf l) = at_built ns i ∙ ap (λ n. built n (formulas_below ns i)) e in cc
+  below_some : (j : ℕ) → is_some (formulas_below ns i j) ≡ true → (j < i) × (formulas_below ns i j ≡ formula_at ns j)
+  below_some j h = ⊎_elim (λ l. (l, below_at ns i j l)) (λ past. absurd (both_ways _ (ap is_some (below_past ns i j past)) h)) (cases_lt j i)
 
-  pub prefix_part : (p : prefixes.Prefix) (j : ℕ) → get_or ns i (Leaf True) ≡ Prefix p j → (g : Formula) × (j < i) × (formula_at ns j ≡ Some g) × (f ≡ prefix p g)
-  prefix_part p j e = go (formulas_below ns i j) refl
-    where
-      b : option_map (prefix p) (formulas_below ns i j) ≡ Some f
-      b = ap (λ n. built n (formulas_below ns i)) (sym e) ∙ sym (at_built ns i) ∙ stands
+  pub prefix_part : (p : prefixes.Prefix) (j : ℕ) → get_or ns i (Leaf True) ≡ Prefix p j → (j < i) × Formed ns j × (unwrap_or (formula_at ns i) (leaf True) ≡ prefix p (unwrap_or (formula_at ns j) (leaf True)))
+  prefix_part p j e =
+      let m = made (Prefix p j) e in
+      let k = mapped_some p (formulas_below ns i j) (ap is_some (sym m) ∙ formed) in
+      let b = below_some j k.0 in
+      (b.0, ap is_some (sym b.1) ∙ k.0, ap (λ x. unwrap_or x (leaf True)) m ∙ k.1 ∙ ap (λ x. prefix p (unwrap_or x (leaf True))) b.1)
 
-      go : (o : Option Formula) → formulas_below ns i j ≡ o → (g : Formula) × (j < i) × (formula_at ns j ≡ Some g) × (f ≡ prefix p g)
-      go None d = let n = ap (option_map (prefix p)) (sym d) ∙ b in let z : ◌≡◌ {A = ℕ} 0 1 = cc in absurd (omega arith)
-      go (Some g) d = let n = ap (option_map (prefix p)) (sym d) ∙ b in let at = below_some j g d in (g, at.0, at.1, cc)
-
-  pub fork_part : (o : Binary) (j k : ℕ) → get_or ns i (Leaf True) ≡ Fork o j k → (g : Formula) × (h : Formula) × (j < i) × (k < i) × (formula_at ns j ≡ Some g) × (formula_at ns k ≡ Some h) × (f ≡ binary o g h)
-  fork_part o j k e = go (formulas_below ns i j) (formulas_below ns i k) refl refl
-    where
-      b : joined o (formulas_below ns i j) (formulas_below ns i k) ≡ Some f
-      b = ap (λ n. built n (formulas_below ns i)) (sym e) ∙ sym (at_built ns i) ∙ stands
-
-      go : (x y : Option Formula) → formulas_below ns i j ≡ x → formulas_below ns i k ≡ y → (g : Formula) × (h : Formula) × (j < i) × (k < i) × (formula_at ns j ≡ Some g) × (formula_at ns k ≡ Some h) × (f ≡ binary o g h)
-      go None y d q = let n = (λ z. joined o (sym d z) (sym q z)) ∙ b in let z : ◌≡◌ {A = ℕ} 0 1 = cc in absurd (omega arith)
-      go (Some g) None d q = let n = (λ z. joined o (sym d z) (sym q z)) ∙ b in let z : ◌≡◌ {A = ℕ} 0 1 = cc in absurd (omega arith)
-      go (Some g) (Some h) d q =
-          let n = (λ z. joined o (sym d z) (sym q z)) ∙ b in
-          let l = below_some j g d in
-          let r = below_some k h q in
-          (g, h, l.0, r.0, l.1, r.1, cc)
+  pub fork_part : (o : Binary) (j k : ℕ) → get_or ns i (Leaf True) ≡ Fork o j k → (j < i) × (k < i) × Formed ns j × Formed ns k × (unwrap_or (formula_at ns i) (leaf True) ≡ binary o (unwrap_or (formula_at ns j) (leaf True)) (unwrap_or (formula_at ns k) (leaf True)))
+  fork_part o j k e =
+      let m = made (Fork o j k) e in
+      let s = joined_some o (formulas_below ns i j) (formulas_below ns i k) (ap is_some (sym m) ∙ formed) in
+      let b = below_some j s.0 in
+      let d = below_some k s.1 in
+      (b.0, d.0, ap is_some (sym b.1) ∙ s.0, ap is_some (sym d.1) ∙ s.1, ap (λ x. unwrap_or x (leaf True)) m ∙ s.2 ∙ ap₂ (λ x y. binary o (unwrap_or x (leaf True)) (unwrap_or y (leaf True))) b.1 d.1)

@@ -1,21 +1,15 @@
 -- From the front of a text to the text as a whole.
 use Rattle.std.proofs.Common.{◌≡◌, ℕ, ◌≤◌, true, List, [], ◌++◌, length, drop, sym, ap, ◌∙◌, arith}
-use Rattle.std.proofs.lemmas.List.{append-nil, drop_all, length-drop}
+use Rattle.std.proofs.lemmas.List.{append-nil, length-drop}
 use Rattle.calculus.specs.Formula.{Formula, within_letters}
 use Rattle.formulas.specs.Places.{Unread, Unreadable}
-use Rattle.formulas.specs.Texts.{text_of, Reads}
+use Rattle.formulas.specs.Texts.{text_of}
 use Rattle.formulas.proofs.Spelled.{spelled_once}
 
 pub unreadable : (t : List ℕ) → Unread t → Unreadable t
 unreadable t none f r = none f [] r.lettered (sym r.spelled ∙ sym (append-nil (text_of f)))
 
 module _ (t : List ℕ) (end : ℕ) (f : Formula) (spelled : t ≡ text_of f ++ drop end t) (lettered : within_letters 8 8 f ≡ true) where
-  pub reads_whole : end ≡ length t → Reads t f
-  reads_whole e = record {
-    spelled = sym (append-nil (text_of f)) ∙ ap (λ l. text_of f ++ l) (sym (drop_all end t (omega arith))) ∙ sym spelled;
-    lettered = lettered;
-  }
-
   -- the formula stands there, but the text goes on
   pub goes_on : end ≤ length t → (end ≡ length t → ⊥) → Unreadable t
   goes_on inside more g r =

@@ -4,5 +4,4 @@ pub mod Readings
 pub mod Signs
 pub mod Places
 pub mod Sentences
-pub mod Standings
-pub mod Letters
+pub mod Shapes

@@ -32,4 +32,5 @@ pub record Stands (before after : List Node) (count : ℕ) (t : List ℕ) (place
 pub record Whole (ns : List Node) (t : List ℕ) (root : ℕ) : Type 0 where
   pub formula : Formula
   pub reads : Reads t formula
+  pub inside : root < length ns
   pub made : formula_at ns root ≡ Some formula

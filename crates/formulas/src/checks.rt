@@ -1,132 +1,83 @@
-// What is asked of a formula that was read, by recursion over its nodes.
-ghost use Rattle.std.specs.Prelude.{◌≡◌, ◌≤◌, Some, slice_index_or};
-ghost use Rattle.calculus.specs.Formula.{Formula, within_letters, closed_under, nesting};
-ghost use Rattle.calculus.specs.declared.syntax.Leaf.TheVariants.{True as Truth};
-ghost use Rattle.formulas.specs.declared.node.Node.TheVariants.{Leaf as Sole};
-ghost use Rattle.formulas.specs.Letters.{leaf_within, prefix_within, binds};
-ghost use Rattle.formulas.specs.Nodes.{formula_at};
+// What is asked of a formula that was read, by recursion over its parts.
+ghost use Rattle.std.specs.Prelude.{◌≡◌, ◌≤◌, suc, if◌then◌else◌};
+ghost use Rattle.calculus.specs.Environments.{value_at};
+ghost use Rattle.calculus.specs.Formula.{Formula, prefix, within_letters, closed_under, closed, nesting};
 ghost use Rattle.formulas.specs.Readings.{formula_answer};
-ghost use Rattle.formulas.specs.Sentences.{Formed};
-ghost use Rattle.formulas.specs.Standings.{standings_of};
+ghost use Rattle.formulas.specs.Shapes.{formula_of};
 
-use crate::node::Node;
-use crate::standings::Standings;
-use calculus::{Leaf, Prefix};
+use crate::letters::Letters;
+use crate::standings::{Standings, allow, under};
+use crate::subformula::{Shape, Subformula};
+use calculus::{Environment, Prefix, Standing};
 use systems::Refusal;
 
 // How many binders may stand within one another.
 const DEEPEST: usize = 3;
 
-// The node at a place, and the leaf T where there is none.
-pub(crate) fn node_at(nodes: &[Node; 128], at: usize) -> Node
-    ensures { result ≡ slice_index_or nodes.now at (Sole Truth) }
-{
-    if at < 128 {
-        nodes[at]
-    } else {
-        Node::Leaf(Leaf::True)
-    }
-}
-
-fn leaf_within(l: Leaf, lamps: usize) -> bool
-    ensures { result ≡ leaf_within lamps l }
-{
-    match l {
-        Leaf::True => true,
-        Leaf::False => true,
-        Leaf::Lamp(lamp) => lamp < lamps,
-        Leaf::Var(_) => true,
-    }
-}
-
-fn prefix_within(p: Prefix, actions: usize) -> bool
-    ensures { result ≡ prefix_within actions p }
-{
-    match p {
-        Prefix::Not => true,
-        Prefix::Diamond(action) => action < actions,
-        Prefix::Box(action) => action < actions,
-        Prefix::Least(_) => true,
-        Prefix::Greatest(_) => true,
-    }
-}
-
 fn is_binder(p: Prefix) -> bool
-    ensures { result ≡ binds p }
+    ensures { (f : Formula) → nesting (prefix p f) ≡ (if result then suc (nesting f) else nesting f) }
 {
-    match p {
-        Prefix::Not => false,
-        Prefix::Diamond(_) => false,
-        Prefix::Box(_) => false,
-        Prefix::Least(_) => true,
-        Prefix::Greatest(_) => true,
-    }
+    matches!(p, Prefix::Least(_) | Prefix::Greatest(_))
 }
 
-// Whether the formula names only actions and lamps that the system has.
-fn lettered(nodes: &[Node; 128], at: usize, actions: usize, lamps: usize) -> bool
-    requires { Formed nodes.now at }
-    ensures { (f : Formula) → formula_at nodes.now at ≡ Some f → result ≡ within_letters actions lamps f }
-{
-    match node_at(nodes, at) {
-        Node::Leaf(l) => leaf_within(l, lamps),
-        Node::Prefix(p, body) => {
-            prefix_within(p, actions) && lettered(nodes, body, actions, lamps)
-        }
-        Node::Binary(_, left, right) => {
-            lettered(nodes, left, actions, lamps) && lettered(nodes, right, actions, lamps)
+impl Subformula<'_> {
+    // Whether it names only these actions and lamps.
+    fn is_within(self, letters: Letters) -> bool
+        ensures { result ≡ within_letters letters.actions letters.lamps (formula_of self.entry) }
+    {
+        match self.shape() {
+            Shape::Leaf(l) => letters.has_leaf(l),
+            Shape::Prefix(p, body) => letters.has_prefix(p) && body.is_within(letters),
+            Shape::Binary(_, left, right) => left.is_within(letters) && right.is_within(letters),
         }
     }
-}
 
-// Whether each variable is bound with an even number of negations up to it.
-fn bound(nodes: &[Node; 128], at: usize, variables: Standings) -> bool
-    requires { Formed nodes.now at }
-    ensures { (f : Formula) → formula_at nodes.now at ≡ Some f → result ≡ closed_under (standings_of variables) f }
-{
-    match node_at(nodes, at) {
-        Node::Leaf(l) => variables.allow(l),
-        Node::Prefix(p, body) => bound(nodes, body, variables.under(p)),
-        Node::Binary(_, left, right) => {
-            bound(nodes, left, variables) && bound(nodes, right, variables)
+    // Whether each variable stands under an even number of negations, where those that are bound
+    // further out stand as given.
+    fn is_closed_under(self, variables: Standings) -> bool
+        ensures { result ≡ closed_under (value_at variables) (formula_of self.entry) }
+    {
+        match self.shape() {
+            Shape::Leaf(l) => allow(variables, l),
+            Shape::Prefix(p, body) => body.is_closed_under(under(variables, p)),
+            Shape::Binary(_, left, right) => {
+                left.is_closed_under(variables) && right.is_closed_under(variables)
+            }
         }
     }
-}
 
-// How many binders stand within one another.
-fn depth(nodes: &[Node; 128], at: usize) -> usize
-    requires { Formed nodes.now at }
-    ensures value { (f : Formula) → formula_at nodes.now at ≡ Some f → result ≡ nesting f }
-    ensures small { result ≤ at }
-{
-    match node_at(nodes, at) {
-        Node::Leaf(_) => 0,
-        Node::Prefix(p, body) => {
-            let inner = depth(nodes, body);
-            if is_binder(p) { inner + 1 } else { inner }
+    // Whether each variable is bound, with an even number of negations up to it.
+    fn is_closed(self) -> bool
+        ensures { result ≡ closed (formula_of self.entry) }
+    {
+        self.is_closed_under(Environment::of(Standing::Free))
+    }
+
+    // How many binders stand within one another.
+    fn depth(self) -> usize
+        ensures value { result ≡ nesting (formula_of self.entry) }
+        ensures small { result ≤ self.entry.at }
+    {
+        match self.shape() {
+            Shape::Leaf(_) => 0,
+            Shape::Prefix(p, body) => body.depth() + usize::from(is_binder(p)),
+            Shape::Binary(_, left, right) => left.depth().max(right.depth()),
         }
-        Node::Binary(_, left, right) => depth(nodes, left).max(depth(nodes, right)),
     }
-}
 
-// The first of the three that fails.
-pub(crate) fn judge(
-    nodes: &[Node; 128],
-    root: usize,
-    actions: usize,
-    lamps: usize,
-) -> Result<(), Refusal>
-    requires { Formed nodes.now root }
-    ensures { (f : Formula) → formula_at nodes.now root ≡ Some f → result ≡ formula_answer actions lamps f }
-{
-    if !lettered(nodes, root, actions, lamps) {
-        return Err(Refusal::ForeignLetter);
+    // The first of the three that fails.
+    pub(crate) fn judge(self, letters: Letters) -> Result<(), Refusal>
+        ensures { result ≡ formula_answer letters.actions letters.lamps (formula_of self.entry) }
+    {
+        if !self.is_within(letters) {
+            return Err(Refusal::ForeignLetter);
+        }
+        if !self.is_closed() {
+            return Err(Refusal::Unbound);
+        }
+        if self.depth() > DEEPEST {
+            return Err(Refusal::Nesting);
+        }
+        Ok(())
     }
-    if !bound(nodes, root, Standings::unbound()) {
-        return Err(Refusal::Unbound);
-    }
-    if depth(nodes, root) > DEEPEST {
-        return Err(Refusal::Nesting);
-    }
-    Ok(())
 }

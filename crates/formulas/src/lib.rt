@@ -4,13 +4,14 @@
 
 mod checks;
 mod laws;
+mod letters;
 mod node;
 mod reader;
-mod reading;
 mod sentence;
 mod signs;
 mod standings;
+mod subformula;
 
 pub use laws::texts_have_one_reading;
-pub use node::Node;
 pub use sentence::Sentence;
+pub use subformula::{Shape, Subformula};

@@ -15,13 +15,14 @@ pub(crate) struct Found {
 
 // Reads the formula that begins at a place, with `count` nodes made before it. A formula has at
 // least as many bytes as nodes, so there is always room for the next one.
+#[tactic(auto, using(crate::proofs::Reading::steps))]
 fn formula(nodes: &mut [Node; 128], count: usize, text: &[u8], place: usize) -> Option<Found>
     requires few { count ≤ place }
     requires within { place ≤ length text.now }
     requires short { length text.now ≤ 128 }
     ensures { MatchOption result (Unread (drop place text.now)) (λ f. Stands nodes.old nodes.new count text.now place f) }
 {
-    match begins(text, place) {
+    match begins(text, place)? {
         Start::Atom(l) => {
             nodes[count] = Node::Leaf(l);
             Some(Found {
@@ -52,11 +53,11 @@ fn formula(nodes: &mut [Node; 128], count: usize, text: &[u8], place: usize) -> 
                 root,
             })
         }
-        Start::Nothing => None,
     }
 }
 
 // Reads the text as a whole.
+#[tactic(auto, using(crate::proofs::Wholes::unreadable, crate::proofs::Wholes::goes_on))]
 pub(crate) fn whole(nodes: &mut [Node; 128], text: &[u8]) -> Option<usize>
     requires { length text.now ≤ 128 }
     ensures { MatchOption result (Unreadable text.now) (λ root. Whole nodes.new text.now root) }

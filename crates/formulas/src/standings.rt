@@ -1,113 +1,40 @@
-// How the variables stand to a place of a formula: each is bound there with an even or an odd
+// How the variables stand at a place of a formula: each is bound there with an even or an odd
 // number of negations since its binder, or not bound.
 ghost use Rattle.std.specs.Prelude.{◌≡◌};
-ghost use Rattle.formulas.specs.declared.standings.Standing.TheVariants.{Unbound};
-ghost use Rattle.formulas.specs.Standings.{opposite, with_even, standings_under, even_leaf, at_standings};
+ghost use Rattle.calculus.specs.Environments.{value_at};
+ghost use Rattle.calculus.specs.Formula.{Formula, leaf, prefix, closed_under, negated};
 
-use calculus::{Leaf, Prefix, Variable};
+use calculus::{Environment, Leaf, Prefix, Standing};
 
-#[derive(Clone, Copy)]
-pub(crate) enum Standing {
-    Unbound,
-    Even,
-    Odd,
-}
+pub(crate) type Standings = Environment<Standing>;
 
-#[derive(Clone, Copy)]
-pub(crate) struct Standings {
-    x: Standing,
-    y: Standing,
-    z: Standing,
-}
-
-impl Standing {
-    fn negated(self) -> Standing
-        ensures { result ≡ opposite self }
-    {
-        match self {
-            Standing::Unbound => Standing::Unbound,
-            Standing::Even => Standing::Odd,
-            Standing::Odd => Standing::Even,
-        }
+fn negated(variables: Standings) -> Standings
+    ensures { value_at result ≡ (λ v. negated (value_at variables v)) }
+{
+    Environment {
+        x: variables.x.negated(),
+        y: variables.y.negated(),
+        z: variables.z.negated(),
     }
 }
 
-impl Standings {
-    // No variable is bound.
-    pub(crate) fn unbound() -> Standings
-        ensures x { result.x ≡ Unbound }
-        ensures y { result.y ≡ Unbound }
-        ensures z { result.z ≡ Unbound }
-    {
-        Standings {
-            x: Standing::Unbound,
-            y: Standing::Unbound,
-            z: Standing::Unbound,
-        }
+// How they stand under a prefix: a binder starts its count of negations anew.
+pub(crate) fn under(variables: Standings, p: Prefix) -> Standings
+    ensures { (f : Formula) → closed_under (value_at variables) (prefix p f) ≡ closed_under (value_at result) f }
+{
+    match p {
+        Prefix::Not => negated(variables),
+        Prefix::Diamond(_) | Prefix::Box(_) => variables,
+        Prefix::Least(v) | Prefix::Greatest(v) => variables.with(v, Standing::Even),
     }
+}
 
-    fn with(self, v: Variable) -> Standings
-        ensures { result ≡ with_even self v }
-    {
-        match v {
-            Variable::X => Standings {
-                x: Standing::Even,
-                y: self.y,
-                z: self.z,
-            },
-            Variable::Y => Standings {
-                x: self.x,
-                y: Standing::Even,
-                z: self.z,
-            },
-            Variable::Z => Standings {
-                x: self.x,
-                y: self.y,
-                z: Standing::Even,
-            },
-        }
-    }
-
-    // How they stand under a prefix: a binder starts its count of negations anew.
-    pub(crate) fn under(self, p: Prefix) -> Standings
-        ensures { result ≡ standings_under p self }
-    {
-        match p {
-            Prefix::Not => Standings {
-                x: self.x.negated(),
-                y: self.y.negated(),
-                z: self.z.negated(),
-            },
-            Prefix::Diamond(_) => self,
-            Prefix::Box(_) => self,
-            Prefix::Least(v) => self.with(v),
-            Prefix::Greatest(v) => self.with(v),
-        }
-    }
-
-    fn at(self, v: Variable) -> Standing
-        ensures { result ≡ at_standings self v }
-    {
-        match v {
-            Variable::X => self.x,
-            Variable::Y => self.y,
-            Variable::Z => self.z,
-        }
-    }
-
-    // Whether the leaf may stand here: a variable only with an even number of negations.
-    pub(crate) fn allow(self, l: Leaf) -> bool
-        ensures { result ≡ even_leaf l self }
-    {
-        match l {
-            Leaf::True => true,
-            Leaf::False => true,
-            Leaf::Lamp(_) => true,
-            Leaf::Var(v) => match self.at(v) {
-                Standing::Unbound => false,
-                Standing::Even => true,
-                Standing::Odd => false,
-            },
-        }
+// Whether the leaf may stand here: a variable only with an even number of negations.
+pub(crate) fn allow(variables: Standings, l: Leaf) -> bool
+    ensures { result ≡ closed_under (value_at variables) (leaf l) }
+{
+    match l {
+        Leaf::True | Leaf::False | Leaf::Lamp(_) => true,
+        Leaf::Var(v) => matches!(variables.at(v), Standing::Even),
     }
 }

@@ -1,5 +1,3 @@
 pub mod Tables
-pub mod Kept
-pub mod Changes
-pub mod Copied
 pub mod Held
+pub mod Taken

@@ -1,22 +1,10 @@
--- Reads of a table after one of its entries has changed.
-use Rattle.std.proofs.Common.{◌≡◌, ℕ, zero, suc, ◌<◌, Bool, true, false, cond, ◌&&◌, eqb, List, length, get_or, set, replicate, sym, refl, ap, ◌∙◌, ⊎_elim}
-use Rattle.std.proofs.lemmas.List.{get_or-set_same, get_or-set_other}
-use Rattle.std.proofs.lemmas.Bool.{eqb-true, cond_both, cases_eq, eq-eqb, ne_eqb, cond-true, cond-false}
-
-pub read_set : {X : Type 0} (xs : List X) (i j : ℕ) (v d : X) → i < length xs → get_or (set xs i v) j d ≡ cond (eqb j i) v (get_or xs j d)
-read_set xs i j v d within =
-    ⊎_elim
-    (λ e. ap (λ k. get_or (set xs i v) k d) e ∙ get_or-set_same xs i v d within ∙ sym (cond-true (eqb j i) v (get_or xs j d) (eq-eqb j i e)))
-    (λ ne. get_or-set_other xs i j v d ne ∙ sym (cond-false (eqb j i) v (get_or xs j d) (ne_eqb j i ne)))
-    (cases_eq j i)
-
--- Where a test of one entry changed its answer as `here` says, the test of all entries did so at that one place.
-module _ {X : Type 0} (test : X → Bool) (d : X) where
-  pub test_set : (xs : List X) (i : ℕ) (v : X) (here b : Bool) → i < length xs → test v ≡ cond here b (test (get_or xs i d)) → (j : ℕ) → test (get_or (set xs i v) j d) ≡ cond (eqb j i && here) b (test (get_or xs j d))
-  test_set xs i v here b within changed j =
-      ap test (read_set xs i j v d within) ∙ cond_both (eqb j i) v (get_or xs j d) (λ x. test x ≡ cond (eqb j i && here) b (test (get_or xs j d)))
-      (λ same. changed ∙ ap (λ k. cond here b (test (get_or xs k d))) (sym (eqb-true j i same)) ∙ sym (ap (λ x. cond (x && here) b (test (get_or xs j d))) same))
-      (λ other. sym (ap (λ x. cond (x && here) b (test (get_or xs j d))) other))
+-- Reads of an array by what its entries have in common.
+use Rattle.std.proofs.Common.{◌≡◌, ℕ, zero, suc, ◌+◌, ◌<◌, ◌≤◌, List, get_or, replicate, subst, sym, ⊎_elim, arith}
+use Rattle.std.proofs.lemmas.Bool.{cases_eq, cases_lt}
+use Rattle.std.proofs.lemmas.List.{get_or_past}
+use Rattle.std.specs.Array.{IsFromFnResult, IsFromFnResultFrom}
+use Rattle.std.specs.Fn.{Called}
+use denote.Param.Members.{Mut}
 
 -- what holds of a value and of the default holds of each place of the value's copies
 pub read_copies : {X : Type 0} (P : X → Type 0) (v d : X) (n i : ℕ) → P v → P d → P (get_or (replicate n v) i d)
@@ -24,12 +12,22 @@ read_copies P v d zero i at-v at-d = at-d
 read_copies P v d (suc n) zero at-v at-d = at-v
 read_copies P v d (suc n) (suc i) at-v at-d = read_copies P v d n i at-v at-d
 
-pub and_assoc : (x y z : Bool) → (x && (y && z)) ≡ (x && y && z)
-and_assoc true y z = refl
-and_assoc false y z = refl
+made_from : {F B : Type 0} (g : Mut F (ℕ × Unit {0}) B) (P : ℕ → B → Type 0) (f : F) → ((i : ℕ) (y : B) (q : F) → Called g f (i, tt) y q → P i y × (q ≡ f))
+    → (ys : List B) (d : B) (i n k : ℕ) → IsFromFnResultFrom g f ys i n → i ≤ k → k < i + n → P k (get_or ys k d)
+made_from g P f step ys d i zero k run le lt = absurd (omega arith)
+made_from {F} g P f step ys d i (suc n) k run le lt =
+    let told : P i run.1 × (run.0 ≡ f) = step i run.1 run.0 run.3 in
+    ⊎_elim
+    (λ same. subst (λ j. P j (get_or ys j d)) (sym same) (subst (P i) (sym (run.2.1 d)) told.0))
+    (λ other. made_from g P f step ys d (i + 1) n k (subst (λ (q : F). IsFromFnResultFrom g q ys (i + 1) n) told.1 run.4) (omega arith) (omega arith))
+    (cases_eq k i)
 
-pub and_comm : (x y : Bool) → (x && y) ≡ (y && x)
-and_comm true true = refl
-and_comm true false = refl
-and_comm false true = refl
-and_comm false false = refl
+-- entries that a closure made, which stays as it was: where each call gives what has P, and the default has P
+-- beyond them, so has what is read at any index
+pub made : {F B : Type 0} {g : Mut F (ℕ × Unit {0}) B} {f : F} {ys : List B} {n : ℕ} → IsFromFnResult g f ys n → (P : ℕ → B → Type 0) (d : B)
+    → ((i : ℕ) (y : B) (q : F) → Called g f (i, tt) y q → P i y × (q ≡ f)) → ((k : ℕ) → n ≤ k → P k d) → (k : ℕ) → P k (get_or ys k d)
+made {F} {B} {g} {f} {ys} {n} all P d step beyond k =
+    ⊎_elim
+    (λ lt. made_from g P f step ys d 0 n k all.each (omega arith) (omega arith))
+    (λ le. subst (P k) (sym (get_or_past ys k d (omega (arith, all.long)))) (beyond k le))
+    (cases_lt k n)

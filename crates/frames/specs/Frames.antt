@@ -5,7 +5,7 @@ use Rattle.frames.specs.declared.draft.Draft.{Draft}
 use Rattle.frames.specs.declared.frame.Frame.{Frame}
 
 abbrev pub meaning_of : Frame → Meaning
-meaning_of f = frame_meaning f.sizes f.grid
+meaning_of f = frame_meaning f.bounds.sizes f.grid
 
 -- what a draft means so far
 abbrev pub draft_meaning : Draft → Meaning

@@ -1,6 +1,6 @@
 pub mod Grids
 pub mod Frames
 pub mod Drafts
-pub mod Copies
--- lemmas by which the law of systems is met: nothing in them has to be believed
+pub mod Loads
+-- the lemma by which the law of systems is met: nothing in it has to be believed
 pub mod Laws

@@ -2,51 +2,34 @@
 ghost use Rattle.std.specs.Prelude.{◌≡◌, ℕ};
 ghost use Rattle.frames.specs.Frames.{meaning_of};
 ghost use Rattle.sets.specs.Sets.{has};
-ghost use Rattle.systems.specs.Words.{possible, certain, is_on, is_off};
+ghost use Rattle.systems.specs.Words.{among, shows};
 
 use crate::frame::Frame;
 use sets::Set;
+use systems::{Modality, Setting};
 
 impl Frame {
-    // The states that possible moves from a state on an action enter.
-    pub fn possible_from(&self, state: usize, action: usize) -> Set
-        ensures { (t : ℕ) → has result t ≡ possible ((meaning_of self.now).kind state action t) }
+    // The states that a state's moves on an action enter: its possible moves, or its certain ones.
+    #[tactic(auto, using(crate::proofs::Held::may_held))]
+    pub fn moves_from(&self, state: usize, action: usize, modality: Modality) -> Set
+        ensures { (t : ℕ) → has result t ≡ among modality ((meaning_of self.now).kind state action t) }
     {
-        if state >= self.sizes.states || action >= self.sizes.actions {
-            return sets::empty();
+        let targets = self.grid.targets(state, action);
+        match modality {
+            Modality::May => targets.may,
+            Modality::Must => targets.must,
         }
-        let row = &self.grid.rows[state];
-        row.may[action]
     }
 
-    // The states that certain moves from a state on an action enter.
-    pub fn certain_from(&self, state: usize, action: usize) -> Set
-        ensures { (t : ℕ) → has result t ≡ certain ((meaning_of self.now).kind state action t) }
+    // The states where a lamp is on, or off.
+    #[tactic(auto, using(crate::proofs::Held::off_held))]
+    pub fn lit(&self, lamp: usize, setting: Setting) -> Set
+        ensures { (s : ℕ) → has result s ≡ shows setting ((meaning_of self.now).light s lamp) }
     {
-        if state >= self.sizes.states || action >= self.sizes.actions {
-            return sets::empty();
+        let lights = self.grid.lights(lamp);
+        match setting {
+            Setting::On => lights.on,
+            Setting::Off => lights.off,
         }
-        let row = &self.grid.rows[state];
-        row.must[action]
-    }
-
-    // The states where a lamp is on.
-    pub fn lit_on(&self, lamp: usize) -> Set
-        ensures { (s : ℕ) → has result s ≡ is_on ((meaning_of self.now).light s lamp) }
-    {
-        if lamp >= self.sizes.lamps {
-            return sets::empty();
-        }
-        self.grid.on[lamp]
-    }
-
-    // The states where a lamp is off.
-    pub fn lit_off(&self, lamp: usize) -> Set
-        ensures { (s : ℕ) → has result s ≡ is_off ((meaning_of self.now).light s lamp) }
-    {
-        if lamp >= self.sizes.lamps {
-            return sets::empty();
-        }
-        self.grid.off[lamp]
     }
 }

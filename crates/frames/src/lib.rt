@@ -3,7 +3,6 @@
 #![tactic(auto)]
 
 mod asks;
-mod builds;
 mod draft;
 mod edits;
 mod frame;

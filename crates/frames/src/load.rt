@@ -1,87 +1,93 @@
 // A draft takes over any system that is small enough, whatever implements it.
-ghost use Rattle.std.specs.Prelude.{◌≡◌, ◌<◌, ◌&&◌, ◌==◌, nat_lt};
+ghost use Rattle.std.specs.Prelude.{◌≡◌, ℕ, slice_index_or, MatchResult, Ok, Err};
 ghost use Rattle.sets.specs.Sets.{width};
 ghost use Rattle.systems.specs.Edits.{after, load_answer};
-ghost use Rattle.systems.specs.Meaning.{move_within, light_within};
-ghost use Rattle.frames.specs.Copies.{moves_from, lights_from};
-ghost use Rattle.frames.specs.Frames.{meaning_of, draft_meaning};
+ghost use Rattle.frames.specs.Frames.{draft_meaning};
 
 use crate::draft::Draft;
 use crate::frame::Frame;
+use crate::grid::{Grid, Lights, Row, Targets};
 use sets::WIDTH;
-use systems::{Refusal, System};
+use std::array;
+use systems::{Bounds, LampAt, Move, Refusal, System};
 
 impl Draft {
     // The draft becomes a copy of the system.
+    #[tactic(auto, using(crate::proofs::Taken::taken))]
     pub fn load<S: System>(&mut self, system: &S) -> Result<(), Refusal>
         ensures answer { result ≡ load_answer width (S.meaning system.now) }
         ensures after { draft_meaning self.new ≡ after result (S.meaning system.now) (draft_meaning self.old) }
     {
-        let sizes = system.sizes();
-        if sizes.states == 0 || sizes.states > WIDTH {
-            return Err(Refusal::States);
-        }
-        let mut frame = Frame::blank(sizes);
-        copy_moves(&mut frame, system);
-        copy_lights(&mut frame, system);
-        self.frame = frame;
+        let small = Small::of(system)?;
+        self.frame = Frame {
+            bounds: small.bounds,
+            grid: small.grid(),
+        };
         Ok(())
     }
 }
 
-// The moves from one state on one action.
-fn copy_moves_on<S: System>(frame: &mut Frame, system: &S, from: usize, action: usize)
-    requires sizes { frame.old.sizes ≡ (S.meaning system.now).sizes }
-    requires from { from < frame.old.sizes.states }
-    requires action { action < frame.old.sizes.actions }
-    ensures { meaning_of frame.new ≡ moves_from (λ s a t. (s == from) && a == action && nat_lt t frame.old.sizes.states) (S.meaning system.now) (meaning_of frame.old) }
-{
-    let states = frame.sizes().states;
-    for to in 0..states {
-        frame.set_move(from, action, to, system.kind(from, action, to));
-    }
+// A system that a frame has room for.
+#[derive(Drop)]
+struct Small<'a, S: System> {
+    system: &'a S,
+    bounds: Bounds<WIDTH>,
+    ghost measured: { bounds.sizes ≡ (S.meaning system.now).sizes },
 }
 
-// The moves from one state.
-fn copy_moves_of<S: System>(frame: &mut Frame, system: &S, from: usize)
-    requires sizes { frame.old.sizes ≡ (S.meaning system.now).sizes }
-    requires from { from < frame.old.sizes.states }
-    ensures { meaning_of frame.new ≡ moves_from (λ s a t. (s == from) && nat_lt a frame.old.sizes.actions && nat_lt t frame.old.sizes.states) (S.meaning system.now) (meaning_of frame.old) }
-{
-    let actions = frame.sizes().actions;
-    for action in 0..actions {
-        copy_moves_on(frame, system, from, action);
-    }
-}
+impl<'a, S: System> Small<'a, S> {
+    ghost use Rattle.frames.specs.Grids.{blank_row, no_lights};
+    ghost use Rattle.frames.specs.Loads.{HoldsMoves, HoldsRow, HoldsLights};
 
-fn copy_moves<S: System>(frame: &mut Frame, system: &S)
-    requires { frame.old.sizes ≡ (S.meaning system.now).sizes }
-    ensures { meaning_of frame.new ≡ moves_from (move_within frame.old.sizes) (S.meaning system.now) (meaning_of frame.old) }
-{
-    let states = frame.sizes().states;
-    for from in 0..states {
-        copy_moves_of(frame, system, from);
+    fn of(system: &'a S) -> Result<Small<'a, S>, Refusal>
+        ensures { MatchResult result (λ s. (s.system.now ≡ system.now) × (load_answer width (S.meaning system.now) ≡ Ok tt)) (λ e. load_answer width (S.meaning system.now) ≡ Err e) }
+    {
+        let bounds = Bounds::check(system.sizes())?;
+        Ok(Small { system, bounds })
     }
-}
 
-// The lights of one state.
-fn copy_lights_of<S: System>(frame: &mut Frame, system: &S, state: usize)
-    requires sizes { frame.old.sizes ≡ (S.meaning system.now).sizes }
-    requires state { state < frame.old.sizes.states }
-    ensures { meaning_of frame.new ≡ lights_from (λ s l. (s == state) && nat_lt l frame.old.sizes.lamps) (S.meaning system.now) (meaning_of frame.old) }
-{
-    let lamps = frame.sizes().lamps;
-    for lamp in 0..lamps {
-        frame.set_light(state, lamp, system.light(state, lamp));
+    // Each move is asked for once, and goes into both sets.
+    fn targets(&self, from: usize, action: usize) -> Targets
+        ensures { HoldsMoves self.now.bounds.sizes (S.meaning self.now.system.now) from action result }
+    {
+        let sizes = self.bounds.sizes;
+        let mut targets = Targets::none();
+        if from < sizes.states && action < sizes.actions {
+            for to in 0..sizes.states {
+                targets.set(to, self.system.kind(Move { from, action, to }));
+            }
+        }
+        targets
     }
-}
 
-fn copy_lights<S: System>(frame: &mut Frame, system: &S)
-    requires { frame.old.sizes ≡ (S.meaning system.now).sizes }
-    ensures { meaning_of frame.new ≡ lights_from (light_within frame.old.sizes) (S.meaning system.now) (meaning_of frame.old) }
-{
-    let states = frame.sizes().states;
-    for state in 0..states {
-        copy_lights_of(frame, system, state);
+    fn row(&self, from: usize) -> Row
+        ensures { HoldsRow self.now.bounds.sizes (S.meaning self.now.system.now) from result }
+    {
+        Row {
+            by_action: array::from_fn(|action| self.targets(from, action)),
+        }
+    }
+
+    fn lights(&self, lamp: usize) -> Lights
+        ensures { HoldsLights self.now.bounds.sizes (S.meaning self.now.system.now) lamp result }
+    {
+        let sizes = self.bounds.sizes;
+        let mut lights = Lights::none();
+        if lamp < sizes.lamps {
+            for state in 0..sizes.states {
+                lights.set(state, self.system.light(LampAt { state, lamp }));
+            }
+        }
+        lights
+    }
+
+    fn grid(&self) -> Grid
+        ensures rows { (s : ℕ) → HoldsRow self.now.bounds.sizes (S.meaning self.now.system.now) s (slice_index_or result.rows s blank_row) }
+        ensures lamps { (l : ℕ) → HoldsLights self.now.bounds.sizes (S.meaning self.now.system.now) l (slice_index_or result.lamps l no_lights) }
+    {
+        Grid {
+            rows: array::from_fn(|from| self.row(from)),
+            lamps: array::from_fn(|lamp| self.lights(lamp)),
+        }
     }
 }

@@ -1,31 +1,36 @@
 -- The run over a text, one line after another.
-use Rattle.std.proofs.Common.{◌≡◌, ℕ, ◌+◌, ◌-◌, ◌<◌, ◌≤◌, Bool, true, false, List, length, take, drop, Ok, Err, refl, subst, add-one}
-use Rattle.std.proofs.lemmas.List.{drop_all}
+use Rattle.std.proofs.Common.{◌≡◌, ℕ, ◌+◌, ◌<◌, Bool, true, false, List, [], ◌∷◌, length, Ok, Err, Some, None, MatchOption, eqb, sym, refl, add-one, arith}
+use Rattle.std.proofs.lemmas.Bool.Decides.{nat_tests}
 use Rattle.systems.specs.declared.refusal.Refusal.TheVariants.{Form}
-use Rattle.text.proofs.Feeds.{feed_here, open_here}
-use Rattle.text.specs.Bytes.{before}
+use Rattle.text.proofs.Feeds.{lines_cut}
+use Rattle.text.specs.Bytes.{cut}
 use Rattle.text.specs.Lines.{lines}
-use Rattle.listings.specs.Runs.{Judged, Verdict, rejected, ended, early, open_line, refused, next}
+use Rattle.listings.specs.Runs.{Judged, Verdict, rejected, too_long, judged, ended, early, open_line, refused, next}
 use Rattle.listings.specs.declared.rejection.Rejection.{Rejection}
 
-module _ {P : Type 0} (takes : P → ℕ → List ℕ → P → Verdict → Type 0) (complete : P → Bool) (xs : List ℕ) where
-  -- what is judged from the place at on, where the next line has the number n
-  abbrev pub From : ℕ → ℕ → P → P → Verdict → Type 0
-  From at n p q v = Judged takes complete n (lines (drop at xs)) p q v
+cut_length : (xs : List ℕ) → MatchOption (cut 10 xs) (Unit {0}) (λ p. length p.1 < length xs)
+cut_length [] = tt
+cut_length (x ∷ []) = grind (arith, nat_tests)
+cut_length (x ∷ y ∷ xs) = grind (arith, nat_tests, cut_length (y ∷ xs))
 
-  module _ (at end n : ℕ) (inside : at < length xs) (here : end ≡ at + length (before 10 (drop at xs))) where
-    pub one_more : (p q r : P) (v : Verdict) → end < length xs → takes p n (take (end - at) (drop at xs)) q (Ok tt) → From (end + 1) (n + 1) q r v → From at n p r v
-    one_more p q r v within took rest =
-        rw (feed_here xs at end inside here within) (next refl took (subst (λ k. Judged takes complete k (lines (drop (end + 1) xs)) q r v) (add-one n) rest))
+-- what follows a line is shorter than the text
+pub cut_shorter : (xs : List ℕ) {line rest : List ℕ} → Some (line, rest) ≡ cut 10 xs → length rest < length xs
+cut_shorter xs is = rw (sym is) at (cut_length xs)
 
-    pub stopped : (p q : P) (e : Rejection) → end < length xs → takes p n (take (end - at) (drop at xs)) q (Err e) → From at n p q (Err e)
-    stopped p q e within took = rw (feed_here xs at end inside here within) (refused refl took)
+module _ {P : Type 0} {takes : P → ℕ → List ℕ → P → Verdict → Type 0} {complete : P → Bool} {n : ℕ} {p : P} (xs : List ℕ) where
+  pub one_more : {line rest : List ℕ} {q r : P} {v : Verdict} → Some (line, rest) ≡ cut 10 xs → takes p n line q (Ok tt) → Judged takes complete (n + 1) (lines rest) q r v → Judged takes complete n (lines xs) p r v
+  one_more is took more = rw (rw (sym is) at (lines_cut xs)) (next refl took (rw add-one at more))
 
-    pub not_ended : (p : P) → length xs ≤ end → From at n p p (Err (rejected Form n))
-    not_ended p past = rw (open_here xs at end inside here past) (open_line refl)
+  pub stopped : {line rest : List ℕ} {q : P} {e : Rejection} → Some (line, rest) ≡ cut 10 xs → takes p n line q (Err e) → Judged takes complete n (lines xs) p q (Err e)
+  stopped is took = rw (rw (sym is) at (lines_cut xs)) (refused refl took)
 
-  pub at_end : (at n : ℕ) (p : P) → length xs ≤ at → complete p ≡ true → From at n p p (Ok tt)
-  at_end at n p past done = rw (drop_all at xs past) (ended done)
+  pub not_ended : None ≡ cut 10 xs → false ≡ eqb (length xs) 0 → Judged takes complete n (lines xs) p p (Err (rejected Form n))
+  not_ended is some = rw ((rw (sym is) at (lines_cut xs)) (grind (arith, nat_tests))) (open_line refl)
 
-  pub too_early : (at n : ℕ) (p : P) → length xs ≤ at → complete p ≡ false → From at n p p (Err (rejected Form n))
-  too_early at n p past open-still = rw (drop_all at xs past) (early open-still)
+-- nothing is left
+pub at_end : {P : Type 0} {takes : P → ℕ → List ℕ → P → Verdict → Type 0} {complete : P → Bool} {n : ℕ} {p q : P} {v : Verdict} (xs : List ℕ) → true ≡ eqb (length xs) 0 → Judged takes complete n [] p q v → Judged takes complete n (lines xs) p q v
+at_end [] none last = last
+at_end (x ∷ xs) none last = absurd (grind (arith, nat_tests))
+
+-- what a run over a text is made of
+pub ruleset feeding = (cut_shorter, one_more, stopped, not_ended, at_end, too_long, judged, ended, early)

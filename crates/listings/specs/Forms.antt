@@ -7,9 +7,8 @@ use Rattle.systems.specs.declared.kinds.Modality.{Modality}
 use Rattle.systems.specs.declared.kinds.Modality.TheVariants.{May, Must}
 use Rattle.systems.specs.declared.kinds.Setting.{Setting}
 use Rattle.systems.specs.declared.kinds.Setting.TheVariants.{On, Off}
-use Rattle.systems.specs.declared.kinds.Sizes.{Sizes}
-use Rattle.listings.specs.declared.forms.MoveLine.{MoveLine}
-use Rattle.listings.specs.declared.forms.LightLine.{LightLine}
+use Rattle.systems.specs.declared.places.Sizes.{Sizes}
+use Rattle.systems.specs.Entries.{MoveEntry, LightEntry}
 
 -- the lines of names
 abbrev pub sizes_names : List ℕ
@@ -40,11 +39,11 @@ first_lamp = 112
 abbrev pub sizes_text : Sizes → List ℕ
 sizes_text z = decimal z.states ++ (32 ∷ (decimal z.actions ++ (32 ∷ (decimal z.lamps ++ (32 ∷ decimal z.start)))))
 
-abbrev pub move_text : MoveLine → List ℕ
-move_text m = decimal m.from ++ (32 ∷ (first_action + m.action) ∷ 32 ∷ (decimal m.to ++ (32 ∷ modality_word m.modality)))
+abbrev pub move_text : MoveEntry → List ℕ
+move_text e = decimal e.at.from ++ (32 ∷ (first_action + e.at.action) ∷ 32 ∷ (decimal e.at.to ++ (32 ∷ modality_word e.value)))
 
-abbrev pub light_text : LightLine → List ℕ
-light_text e = decimal e.state ++ (32 ∷ (first_lamp + e.lamp) ∷ 32 ∷ setting_word e.setting)
+abbrev pub light_text : LightEntry → List ℕ
+light_text e = decimal e.at.state ++ (32 ∷ (first_lamp + e.at.lamp) ∷ 32 ∷ setting_word e.value)
 
 -- what follows from a value, if there is one
 abbrev pub and_then : {A B : Type 0} → Option A → (A → Option B) → Option B
@@ -57,11 +56,15 @@ letter_in first [] = None
 letter_in first (b ∷ []) = cond (nat_le first b && nat_lt b (first + 8)) (Some (b - first)) None
 letter_in first (b ∷ c ∷ bs) = None
 
+-- the value that a word stands for, where each of two words stands for one
+abbrev pub choice_in : {T : Type 0} → List ℕ → T → List ℕ → T → List ℕ → Option T
+choice_in first a second b w = cond (bytes_eq w first) (Some a) (cond (bytes_eq w second) (Some b) None)
+
 abbrev pub modality_in : List ℕ → Option Modality
-modality_in w = cond (bytes_eq w (codes "optional")) (Some May) (cond (bytes_eq w (codes "certain")) (Some Must) None)
+modality_in = choice_in (codes "optional") May (codes "certain") Must
 
 abbrev pub setting_in : List ℕ → Option Setting
-setting_in w = cond (bytes_eq w (codes "on")) (Some On) (cond (bytes_eq w (codes "off")) (Some Off) None)
+setting_in = choice_in (codes "on") On (codes "off") Off
 
 -- What a line says: its fields end at the next blank, and the last is all the rest.
 abbrev pub sizes_in : List ℕ → Option Sizes
@@ -75,7 +78,7 @@ sizes_in l =
     and_then (numeral r.1) λ s.
     Some (record { states = n; actions = k; lamps = m; start = s })
 
-abbrev pub move_in : List ℕ → Option MoveLine
+abbrev pub move_in : List ℕ → Option MoveEntry
 move_in l =
     and_then (cut 32 l) λ (p : List ℕ × List ℕ).
     and_then (cut 32 p.1) λ (q : List ℕ × List ℕ).
@@ -84,13 +87,13 @@ move_in l =
     and_then (letter_in first_action q.0) λ a.
     and_then (numeral r.0) λ t.
     and_then (modality_in r.1) λ k.
-    Some (record { from = s; action = a; to = t; modality = k })
+    Some (record { at = record { from = s; action = a; to = t }; value = k })
 
-abbrev pub light_in : List ℕ → Option LightLine
+abbrev pub light_in : List ℕ → Option LightEntry
 light_in l =
     and_then (cut 32 l) λ (p : List ℕ × List ℕ).
     and_then (cut 32 p.1) λ (q : List ℕ × List ℕ).
     and_then (numeral p.0) λ s.
     and_then (letter_in first_lamp q.0) λ m.
     and_then (setting_in q.1) λ v.
-    Some (record { state = s; lamp = m; setting = v })
+    Some (record { at = record { state = s; lamp = m }; value = v })

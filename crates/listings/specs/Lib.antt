@@ -5,3 +5,4 @@ pub mod Readings
 pub mod Texts
 pub mod Rooms
 pub mod Blocks
+pub mod Writings

@@ -4,12 +4,11 @@ use Rattle.std.specs.Str.{bytes_eq}
 use Rattle.systems.specs.Edits.{Answer}
 use Rattle.systems.specs.Making.{Making, sized, sized_answer, moved, moved_answer, lit, lit_answer}
 use Rattle.systems.specs.Words.{drawn, shown}
-use Rattle.systems.specs.declared.kinds.Sizes.{Sizes}
+use Rattle.systems.specs.declared.places.Sizes.{Sizes}
 use Rattle.systems.specs.declared.refusal.Refusal.{Refusal}
 use Rattle.systems.specs.declared.refusal.Refusal.TheVariants.{Form}
 use Rattle.listings.specs.Forms.{sizes_names, moves_names, lights_names, sizes_in, move_in, light_in}
-use Rattle.listings.specs.declared.forms.LightLine.{LightLine}
-use Rattle.listings.specs.declared.forms.MoveLine.{MoveLine}
+use Rattle.systems.specs.Entries.{MoveEntry, LightEntry}
 use Rattle.listings.specs.declared.part.Stage.{Stage}
 use Rattle.listings.specs.declared.part.Stage.TheVariants.{SizesNames, Sizes as SizesValues, MovesNames, Moves, Lights}
 
@@ -22,6 +21,10 @@ stage_after (Ok p) = Ok p.0
 stage_after (Err e) = Err e
 
 -- a refused line changes nothing
+abbrev pub stage_then : Step → Stage → Stage
+stage_then (Ok p) stage = p.0
+stage_then (Err e) stage = stage
+
 abbrev pub made_after : Step → Making → Making
 made_after (Ok p) m = p.1
 made_after (Err e) m = m
@@ -39,13 +42,13 @@ abbrev pub sizes_step : Making → Option Sizes → Step
 sizes_step m None = Err Form
 sizes_step m (Some z) = going (sized_answer m z) MovesNames (sized m z)
 
-abbrev pub move_step : Making → Option MoveLine → Step
+abbrev pub move_step : Making → Option MoveEntry → Step
 move_step m None = Err Form
-move_step m (Some e) = going (moved_answer m e.from e.action e.to) Moves (moved m e.from e.action e.to (drawn e.modality))
+move_step m (Some e) = going (moved_answer m e.at.from e.at.action e.at.to) Moves (moved m e.at.from e.at.action e.at.to (drawn e.value))
 
-abbrev pub light_step : Making → Option LightLine → Step
+abbrev pub light_step : Making → Option LightEntry → Step
 light_step m None = Err Form
-light_step m (Some e) = going (lit_answer m e.state e.lamp) Lights (lit m e.state e.lamp (shown e.setting))
+light_step m (Some e) = going (lit_answer m e.at.state e.at.lamp) Lights (lit m e.at.state e.at.lamp (shown e.value))
 
 -- what each place of a part asks of its line: the form comes first
 abbrev pub step : Stage → Making → List ℕ → Step

@@ -1,5 +1,5 @@
 -- How much room is booked for the text of a frame, and what is written into a buffer.
-use Rattle.std.specs.Prelude.{◌≡◌, ℕ, zero, suc, ◌+◌, ◌*◌, Bool, cond, List, length, Ok, Err, Result, nat_lt}
+use Rattle.std.specs.Prelude.{ℕ, zero, suc, ◌+◌, ◌*◌, Bool, cond, List, length, Ok, Err, Result, nat_lt}
 use Rattle.systems.specs.Meaning.{Meaning, states, actions, lamps}
 use Rattle.systems.specs.Words.{possible, known}
 use Rattle.systems.specs.declared.refusal.Refusal.{Refusal}
@@ -15,9 +15,12 @@ sum_below (suc n) f = sum_below n f + f n
 abbrev pub one_if : Bool → ℕ
 one_if b = cond b 1 0
 
--- the moves from a state, and the lights of one
+-- the moves from a state on an action, all those from a state, and the lights of a state
+abbrev pub moves_on : Meaning → ℕ → ℕ → ℕ
+moves_on M s a = sum_below (states M) (λ t. one_if (possible (M.kind s a t)))
+
 abbrev pub moves_of : Meaning → ℕ → ℕ
-moves_of M s = sum_below (actions M) (λ a. sum_below (states M) (λ t. one_if (possible (M.kind s a t))))
+moves_of M s = sum_below (actions M) (moves_on M s)
 
 abbrev pub lights_of : Meaning → ℕ → ℕ
 lights_of M s = sum_below (lamps M) (λ l. one_if (known (M.light s l)))
@@ -30,12 +33,6 @@ count_lights M = sum_below (states M) (lights_of M)
 
 abbrev pub room_of : Meaning → ℕ
 room_of M = 80 + 17 * (count_moves M + count_lights M)
-
--- the text bs stands in the buffer from the place at on, nothing else has changed, and next is the
--- place after it
-pub record Wrote (old : List ℕ) (at : ℕ) (bs new : List ℕ) (next : ℕ) : Type 0 where
-  pub after : new ≡ put old at bs
-  pub place : next ≡ at + length bs
 
 -- a buffer shorter than the room is refused, and left as it is
 abbrev pub write_answer : Meaning → List ℕ → Result ℕ Refusal

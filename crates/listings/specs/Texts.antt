@@ -1,8 +1,8 @@
 -- The text of a frame: its sizes, its moves by from, action and to, and its lights by state and lamp.
 use Rattle.std.specs.Prelude.{◌≡◌, ℕ, zero, suc, ◌<◌, ◌≤◌, List, [], ◌∷◌, ◌++◌, length, Ok}
-use Rattle.frames.specs.Drafts.{drafting, first_sizes}
+use Rattle.frames.specs.Drafts.{drafting}
 use Rattle.sets.specs.Sets.{width}
-use Rattle.systems.specs.Meaning.{Meaning, Lawful, states, actions, lamps, blank}
+use Rattle.systems.specs.Meaning.{Meaning, Lawful, states, actions, lamps, blank, first_sizes}
 use Rattle.systems.specs.declared.kinds.Kind.{Kind}
 use Rattle.systems.specs.declared.kinds.Kind.TheVariants.{Absent, Optional, Certain}
 use Rattle.systems.specs.declared.kinds.Light.{Light}
@@ -21,13 +21,13 @@ over (suc n) f = over n f ++ f n
 -- the line of a move, and that of a light, with its line feed, 10; nothing where there is none
 abbrev pub move_line : Kind → ℕ → ℕ → ℕ → List ℕ
 move_line Absent s a t = []
-move_line Optional s a t = move_text (record { from = s; action = a; to = t; modality = May }) ++ (10 ∷ [])
-move_line Certain s a t = move_text (record { from = s; action = a; to = t; modality = Must }) ++ (10 ∷ [])
+move_line Optional s a t = move_text (record { at = record { from = s; action = a; to = t }; value = May }) ++ (10 ∷ [])
+move_line Certain s a t = move_text (record { at = record { from = s; action = a; to = t }; value = Must }) ++ (10 ∷ [])
 
 abbrev pub light_line : Light → ℕ → ℕ → List ℕ
 light_line Unknown s l = []
-light_line On s l = light_text (record { state = s; lamp = l; setting = TurnOn }) ++ (10 ∷ [])
-light_line Off s l = light_text (record { state = s; lamp = l; setting = TurnOff }) ++ (10 ∷ [])
+light_line On s l = light_text (record { at = record { state = s; lamp = l }; value = TurnOn }) ++ (10 ∷ [])
+light_line Off s l = light_text (record { at = record { state = s; lamp = l }; value = TurnOff }) ++ (10 ∷ [])
 
 abbrev pub moves_text : Meaning → List ℕ
 moves_text M = over (states M) (λ s. over (actions M) (λ a. over (states M) (λ t. move_line (M.kind s a t) s a t)))

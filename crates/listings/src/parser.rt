@@ -1,6 +1,6 @@
 // The run over a text, line by line, written once for all that takes lines.
 ghost use Rattle.std.specs.Prelude.{◌≡◌, ℕ, Bool, List};
-ghost use Rattle.listings.specs.Runs.{Run, Verdict, rejected};
+ghost use Rattle.listings.specs.Runs.{Run, Verdict};
 
 use crate::rejection::Rejection;
 use systems::Refusal;
@@ -24,34 +24,35 @@ pub trait LineParser {
 pub const LONGEST: usize = 32768;
 
 // Hands the lines of `text` to the parser until one is refused or the text ends.
+#[tactic(auto, using(crate::proofs::Feeding::feeding))]
 pub fn parse<P: LineParser>(parser: &mut P, text: &[u8]) -> Result<(), Rejection>
     ensures { Run P.takes P.complete text.now parser.old parser.new result }
 {
     if text.len() > LONGEST {
-        return Err(rejection(Refusal::Length, 0));
+        return Err(Rejection {
+            refusal: Refusal::Length,
+            line: 0,
+        });
     }
-    let mut at = 0;
+    let mut rest = text;
     let mut number = 1;
-    while at < text.len() {
-        let end = text::find(text, at, b'\n');
-        if end >= text.len() {
-            return Err(rejection(Refusal::Form, number));
-        }
-        if let Err(e) = parser.take(number, &text[at..end]) {
-            return Err(e);
-        }
-        at = end + 1;
+    while !rest.is_empty() {
+        let Some((line, next)) = text::cut_at(rest, b'\n') else {
+            return Err(Rejection {
+                refusal: Refusal::Form,
+                line: number,
+            });
+        };
+        parser.take(number, line)?;
+        rest = next;
         number += 1;
     }
     if parser.is_complete() {
         Ok(())
     } else {
-        Err(rejection(Refusal::Form, number))
+        Err(Rejection {
+            refusal: Refusal::Form,
+            line: number,
+        })
     }
-}
-
-fn rejection(refusal: Refusal, line: usize) -> Rejection
-    ensures { result ≡ rejected refusal line }
-{
-    Rejection { refusal, line }
 }

@@ -1,9 +1,10 @@
 // A frame read from its listing.
 ghost use Rattle.std.specs.Prelude.{◌≡◌};
-ghost use Rattle.frames.specs.Drafts.{drafting, first_sizes};
+ghost use Rattle.frames.specs.Drafts.{drafting};
 ghost use Rattle.frames.specs.Frames.{draft_meaning};
-ghost use Rattle.listings.specs.Readings.{reading, verdict_of, system_after};
-ghost use Rattle.systems.specs.Meaning.{blank};
+ghost use Rattle.listings.specs.Readings.{reading, system_after};
+ghost use Rattle.listings.specs.Runs.{verdict_of};
+ghost use Rattle.systems.specs.Meaning.{blank, first_sizes};
 
 use crate::parser::parse;
 use crate::part::Stage;
@@ -20,12 +21,8 @@ pub fn read(draft: &mut Draft, text: &[u8]) -> Result<(), Rejection>
         stage: Stage::SizesNames,
         builder: Draft::new(),
     };
-    match parse(&mut parser, text) {
-        Err(e) => Err(e),
-        Ok(()) => {
-            let PartParser { stage: _, builder } = parser;
-            *draft = builder;
-            Ok(())
-        }
-    }
+    parse(&mut parser, text)?;
+    let PartParser { stage: _, builder } = parser;
+    *draft = builder;
+    Ok(())
 }

@@ -1,111 +1,136 @@
-// The lines of a listing, written into a buffer one after another. Each function is called with room
-// enough, writes its text from the place `at` on, and answers the place after it.
-ghost use Rattle.std.specs.Prelude.{◌+◌, ◌<◌, ◌≤◌, [], ◌∷◌, ◌++◌, length};
-ghost use Rattle.listings.specs.Forms.{sizes_text};
-ghost use Rattle.listings.specs.Rooms.{Wrote};
-ghost use Rattle.listings.specs.Texts.{heading, move_line, light_line};
+// The lines of a listing, written one after another. Each function writes its text, where there is
+// room for it, and goes on to the place after it.
+ghost use Rattle.std.specs.Prelude.{◌≡◌, ◌<◌, ℕ, List, [], ◌∷◌, ◌++◌};
+ghost use Rattle.listings.specs.Forms.{modality_word, setting_word, sizes_text, move_text, light_text};
+ghost use Rattle.listings.specs.Texts.{over, heading, move_line, light_line};
+ghost use Rattle.listings.specs.Writings.{Writes};
 ghost use Rattle.text.specs.Numbers.{decimal};
 
-use systems::{Kind, Light, Sizes};
+use systems::{Entry, Kind, LampAt, Light, LightEntry, Modality, Move, MoveEntry, Setting, Sizes};
+use text::Writer;
 
-pub(crate) fn put(buffer: &mut [u8], at: usize, bytes: &[u8]) -> usize
-    requires { at + length bytes.now ≤ length buffer.old }
-    ensures { Wrote buffer.old at bytes.now buffer.new result }
+// What is written for each number below `n`, one after another.
+pub(crate) fn each<F: Fn(&mut Writer<'_>, usize)>(writer: &mut Writer<'_>, n: usize, write: F)
+    requires { (w : _) (i : ℕ) → i < n → F.pre write w i }
+    ensures { (f : ℕ → List ℕ) → ((i : ℕ) (w w' : _) → i < n → F.post write w i tt w' → Writes w.now (f i) w'.now) → Writes writer.old (over n f) writer.new }
 {
-    text::write_bytes(buffer, at, bytes)
+    for i in 0..n {
+        write(writer, i);
+    }
+}
+
+// A whole line, with the line feed that ends it.
+pub(crate) fn put_line(writer: &mut Writer<'_>, line: &[u8])
+    ensures { Writes writer.old (heading line.now) writer.new }
+{
+    writer.write_bytes(line);
+    writer.write_bytes(b"\n");
 }
 
 // A number, and the byte that ends its field.
-fn put_field(buffer: &mut [u8], at: usize, number: usize, end: u8) -> usize
-    requires { at + length (decimal number ++ (end ∷ [])) ≤ length buffer.old }
-    ensures { Wrote buffer.old at (decimal number ++ (end ∷ [])) buffer.new result }
+fn put_field(writer: &mut Writer<'_>, number: usize, end: u8)
+    ensures { Writes writer.old (decimal number ++ (end ∷ [])) writer.new }
 {
-    let next = text::write_number(buffer, at, number);
-    text::write_bytes(buffer, next, &[end])
+    writer.write_number(number);
+    writer.write_bytes(&[end]);
 }
 
-pub(crate) fn put_sizes(buffer: &mut [u8], at: usize, sizes: Sizes) -> usize
-    requires { at + length (heading (sizes_text sizes)) ≤ length buffer.old }
-    ensures { Wrote buffer.old at (heading (sizes_text sizes)) buffer.new result }
+// A number, a blank, a letter and a blank.
+fn put_letter(writer: &mut Writer<'_>, number: usize, letter: u8)
+    ensures { Writes writer.old (decimal number ++ (32 ∷ letter ∷ 32 ∷ [])) writer.new }
 {
-    let at = put_field(buffer, at, sizes.states, b' ');
-    let at = put_field(buffer, at, sizes.actions, b' ');
-    let at = put_field(buffer, at, sizes.lamps, b' ');
-    put_field(buffer, at, sizes.start, b'\n')
+    writer.write_number(number);
+    writer.write_bytes(&[b' ', letter, b' ']);
 }
 
-// A number, a letter and what follows, with a blank after each of the first two.
-fn put_letter(buffer: &mut [u8], at: usize, number: usize, letter: u8) -> usize
-    requires { at + length (decimal number ++ (32 ∷ letter ∷ 32 ∷ [])) ≤ length buffer.old }
-    ensures { Wrote buffer.old at (decimal number ++ (32 ∷ letter ∷ 32 ∷ [])) buffer.new result }
+pub(crate) fn put_sizes(writer: &mut Writer<'_>, sizes: Sizes)
+    ensures { Writes writer.old (heading (sizes_text sizes)) writer.new }
 {
-    let next = text::write_number(buffer, at, number);
-    text::write_bytes(buffer, next, &[b' ', letter, b' '])
+    put_field(writer, sizes.states, b' ');
+    put_field(writer, sizes.actions, b' ');
+    put_field(writer, sizes.lamps, b' ');
+    put_field(writer, sizes.start, b'\n');
 }
 
-// The line of a move whose kind is written as `word`, which ends the line.
-fn put_move_line(
-    buffer: &mut [u8],
-    at: usize,
-    from: usize,
-    letter: u8,
-    to: usize,
-    word: &[u8],
-) -> usize
-    requires { at + length (decimal from ++ (32 ∷ letter ∷ 32 ∷ (decimal to ++ (32 ∷ word.now)))) ≤ length buffer.old }
-    ensures { Wrote buffer.old at (decimal from ++ (32 ∷ letter ∷ 32 ∷ (decimal to ++ (32 ∷ word.now)))) buffer.new result }
+fn modality_word(modality: Modality) -> &'static [u8]
+    ensures { result.now ≡ modality_word modality }
 {
-    let at = put_letter(buffer, at, from, letter);
-    let at = put_field(buffer, at, to, b' ');
-    put(buffer, at, word)
+    match modality {
+        Modality::May => b"optional",
+        Modality::Must => b"certain",
+    }
 }
 
-// The line of a light that is written as `word`, which ends the line.
-fn put_light_line(buffer: &mut [u8], at: usize, state: usize, letter: u8, word: &[u8]) -> usize
-    requires { at + length (decimal state ++ (32 ∷ letter ∷ 32 ∷ word.now)) ≤ length buffer.old }
-    ensures { Wrote buffer.old at (decimal state ++ (32 ∷ letter ∷ 32 ∷ word.now)) buffer.new result }
+fn setting_word(setting: Setting) -> &'static [u8]
+    ensures { result.now ≡ setting_word setting }
 {
-    let at = put_letter(buffer, at, state, letter);
-    put(buffer, at, word)
+    match setting {
+        Setting::On => b"on",
+        Setting::Off => b"off",
+    }
+}
+
+fn put_move_entry(writer: &mut Writer<'_>, entry: MoveEntry)
+    requires { entry.at.action < 8 }
+    ensures { Writes writer.old (heading (move_text entry)) writer.new }
+{
+    put_letter(writer, entry.at.from, b'a' + entry.at.action as u8);
+    put_field(writer, entry.at.to, b' ');
+    put_line(writer, modality_word(entry.value));
+}
+
+fn put_light_entry(writer: &mut Writer<'_>, entry: LightEntry)
+    requires { entry.at.lamp < 8 }
+    ensures { Writes writer.old (heading (light_text entry)) writer.new }
+{
+    put_letter(writer, entry.at.state, b'p' + entry.at.lamp as u8);
+    put_line(writer, setting_word(entry.value));
 }
 
 // The line of a move, or nothing where it is absent.
-pub(crate) fn put_move(
-    buffer: &mut [u8],
-    at: usize,
-    from: usize,
-    action: usize,
-    to: usize,
-    kind: Kind,
-) -> usize
-    requires letter { action < 8 }
-    requires fits { at + length (move_line kind from action to) ≤ length buffer.old }
-    ensures { Wrote buffer.old at (move_line kind from action to) buffer.new result }
+pub(crate) fn put_move(writer: &mut Writer<'_>, at: Move, kind: Kind)
+    requires { at.action < 8 }
+    ensures { Writes writer.old (move_line kind at.from at.action at.to) writer.new }
 {
-    let letter = b'a' + action as u8;
     match kind {
-        Kind::Absent => at,
-        Kind::Optional => put_move_line(buffer, at, from, letter, to, b"optional\n"),
-        Kind::Certain => put_move_line(buffer, at, from, letter, to, b"certain\n"),
+        Kind::Absent => {}
+        Kind::Optional => put_move_entry(
+            writer,
+            Entry {
+                at,
+                value: Modality::May,
+            },
+        ),
+        Kind::Certain => put_move_entry(
+            writer,
+            Entry {
+                at,
+                value: Modality::Must,
+            },
+        ),
     }
 }
 
 // The line of a light, or nothing where it is unknown.
-pub(crate) fn put_light(
-    buffer: &mut [u8],
-    at: usize,
-    state: usize,
-    lamp: usize,
-    light: Light,
-) -> usize
-    requires letter { lamp < 8 }
-    requires fits { at + length (light_line light state lamp) ≤ length buffer.old }
-    ensures { Wrote buffer.old at (light_line light state lamp) buffer.new result }
+pub(crate) fn put_light(writer: &mut Writer<'_>, at: LampAt, light: Light)
+    requires { at.lamp < 8 }
+    ensures { Writes writer.old (light_line light at.state at.lamp) writer.new }
 {
-    let letter = b'p' + lamp as u8;
     match light {
-        Light::Unknown => at,
-        Light::On => put_light_line(buffer, at, state, letter, b"on\n"),
-        Light::Off => put_light_line(buffer, at, state, letter, b"off\n"),
+        Light::Unknown => {}
+        Light::On => put_light_entry(
+            writer,
+            Entry {
+                at,
+                value: Setting::On,
+            },
+        ),
+        Light::Off => put_light_entry(
+            writer,
+            Entry {
+                at,
+                value: Setting::Off,
+            },
+        ),
     }
 }

@@ -5,7 +5,9 @@ use Rattle.std.proofs.lemmas.Bool.{and_parts}
 use Rattle.systems.specs.Meaning.{Meaning, states}
 use Rattle.calculus.specs.declared.syntax.Variable.{Variable}
 use Rattle.calculus.specs.declared.syntax.Prefix.TheVariants.{Not, Diamond, Box, Least, Greatest}
-use Rattle.calculus.specs.Formula.{Formula, leaf, prefix, binary, at_variable, Standing, even, negated, closed_under, within_letters}
+use Rattle.calculus.specs.Formula.{Formula, leaf, prefix, binary, at_variable, negated, closed_under, within_letters}
+use Rattle.calculus.specs.declared.syntax.Standing.{Standing}
+use Rattle.calculus.specs.declared.syntax.Standing.TheVariants.{Even}
 use Rattle.calculus.specs.Pairs.{Pair, Same, Within, leaf_pair, not_pair, binary_pair, diamond_pair, box_pair}
 use Rattle.calculus.specs.Marks.{Means}
 use Rattle.logic.proofs.Denotation.{pair_at}
@@ -27,15 +29,15 @@ computed n k l M far (prefix (Least x) f) st cl wl e =
     let q = pair_at n M (prefix (Least x) f) e in
     let F = body n M f e x in
     let mono = body_monotone n k l M f st e x cl wl in (
-      means_same M f (at_variable e x q) (at_variable e x q) (F q) q (λ y. same_refl (states M) (at_variable e x q y)) (same_sym (states M) q (F q) (at_rest rising (states M) F mono n far)) (computed n k l M far f (at_variable st x even) cl wl (at_variable e x q)),
-      λ r fixed. stays_before rising (states M) F mono r (within_from_same (states M) (F r) r (unique M f (at_variable e x r) (F r) r (computed n k l M far f (at_variable st x even) cl wl (at_variable e x r)) fixed)) n,
+      means_same M f (at_variable e x q) (at_variable e x q) (F q) q (λ y. same_refl (states M) (at_variable e x q y)) (same_sym (states M) q (F q) (at_rest rising (states M) F mono n far)) (computed n k l M far f (at_variable st x Even) cl wl (at_variable e x q)),
+      λ r fixed. stays_before rising (states M) F mono r (within_from_same (states M) (F r) r (unique M f (at_variable e x r) (F r) r (computed n k l M far f (at_variable st x Even) cl wl (at_variable e x r)) fixed)) n,
     )
 computed n k l M far (prefix (Greatest x) f) st cl wl e =
     let q = pair_at n M (prefix (Greatest x) f) e in
     let F = body n M f e x in
     let mono = body_monotone n k l M f st e x cl wl in (
-      means_same M f (at_variable e x q) (at_variable e x q) (F q) q (λ y. same_refl (states M) (at_variable e x q y)) (same_sym (states M) q (F q) (at_rest falling (states M) F mono n far)) (computed n k l M far f (at_variable st x even) cl wl (at_variable e x q)),
-      λ r fixed. stays_before falling (states M) F mono r (within_from_same (states M) r (F r) (unique M f (at_variable e x r) r (F r) fixed (computed n k l M far f (at_variable st x even) cl wl (at_variable e x r)))) n,
+      means_same M f (at_variable e x q) (at_variable e x q) (F q) q (λ y. same_refl (states M) (at_variable e x q y)) (same_sym (states M) q (F q) (at_rest falling (states M) F mono n far)) (computed n k l M far f (at_variable st x Even) cl wl (at_variable e x q)),
+      λ r fixed. stays_before falling (states M) F mono r (within_from_same (states M) r (F r) (unique M f (at_variable e x r) r (F r) fixed (computed n k l M far f (at_variable st x Even) cl wl (at_variable e x r)))) n,
     )
 computed n k l M far (binary o f g) st cl wl e =
     let closeds = and_parts (closed_under st f) (closed_under st g) cl in

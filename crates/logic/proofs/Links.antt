@@ -7,7 +7,9 @@ use Rattle.calculus.specs.declared.syntax.Variable.{Variable}
 use Rattle.calculus.specs.declared.syntax.Leaf.TheVariants.{True, False, Lamp, Var}
 use Rattle.calculus.specs.declared.syntax.Prefix.TheVariants.{Not, Diamond, Box, Least, Greatest}
 use Rattle.calculus.specs.declared.syntax.Binary.{Binary}
-use Rattle.calculus.specs.Formula.{Formula, leaf, prefix, binary, same, at_variable, Standing, unbound, even, odd, negated, is_even, closed_under, closed, within_letters}
+use Rattle.calculus.specs.Formula.{Formula, leaf, prefix, binary, same, at_variable, negated, is_even, closed_under, closed, within_letters}
+use Rattle.calculus.specs.declared.syntax.Standing.{Standing}
+use Rattle.calculus.specs.declared.syntax.Standing.TheVariants.{Free, Even, Odd}
 use Rattle.calculus.specs.Pairs.{Pair, leaf_pair, not_pair, binary_pair, diamond_pair, box_pair}
 use Rattle.calculus.specs.Marks.{nothing}
 use Rattle.logic.proofs.Denotation.{iterate, none, every, pair_at}
@@ -34,37 +36,37 @@ converse kept = record { direct = kept.turned; turned = kept.direct; not_direct 
 
 -- a variable's two values are related as it stands: by P with an even number of negations, by Q with an odd one
 abbrev pub As : Standing → Type 0 → Type 0 → Type 0
-As unbound P Q = Unit {0}
-As even P Q = P
-As odd P Q = Q
+As Free P Q = Unit {0}
+As Even P Q = P
+As Odd P Q = Q
 
 abbrev pub Related : (Pair → Pair → Type 0) → (Pair → Pair → Type 0) → (Variable → Standing) → (Variable → Pair) → (Variable → Pair) → Type 0
 Related K K' st e e' = (x : Variable) → As (st x) (K (e x) (e' x)) (K' (e x) (e' x))
 
 as_negated : (P Q : Type 0) (s : Standing) → As s P Q → As (negated s) Q P
-as_negated P Q unbound h = h
-as_negated P Q even h = h
-as_negated P Q odd h = h
+as_negated P Q Free h = h
+as_negated P Q Even h = h
+as_negated P Q Odd h = h
 
 as_even : (P Q : Type 0) (s : Standing) → is_even s ≡ true → As s P Q → P
-as_even P Q unbound e h = absurd (both_ways false refl e)
-as_even P Q even e h = h
-as_even P Q odd e h = absurd (both_ways false refl e)
+as_even P Q Free e h = absurd (both_ways false refl e)
+as_even P Q Even e h = h
+as_even P Q Odd e h = absurd (both_ways false refl e)
 
 pub as_both : (P Q : Type 0) (s : Standing) → P → Q → As s P Q
-as_both P Q unbound p q = tt
-as_both P Q even p q = p
-as_both P Q odd p q = q
+as_both P Q Free p q = tt
+as_both P Q Even p q = p
+as_both P Q Odd p q = q
 
 pub as_mapped : (P P' Q Q' : Type 0) (s : Standing) → (P → P') → (Q → Q') → As s P Q → As s P' Q'
-as_mapped P P' Q Q' unbound f g h = h
-as_mapped P P' Q Q' even f g h = f h
-as_mapped P P' Q Q' odd f g h = g h
+as_mapped P P' Q Q' Free f g h = h
+as_mapped P P' Q Q' Even f g h = f h
+as_mapped P P' Q Q' Odd f g h = g h
 
-pub related_at : (K K' : Pair → Pair → Type 0) (st : Variable → Standing) (e e' : Variable → Pair) (x : Variable) (p q : Pair) → Related K K' st e e' → K p q → Related K K' (at_variable st x even) (at_variable e x p) (at_variable e' x q)
+pub related_at : (K K' : Pair → Pair → Type 0) (st : Variable → Standing) (e e' : Variable → Pair) (x : Variable) (p q : Pair) → Related K K' st e e' → K p q → Related K K' (at_variable st x Even) (at_variable e x p) (at_variable e' x q)
 related_at K K' st e e' x p q rel h y = go (same x y)
   where
-    go : (b : Bool) → As (cond b even (st y)) (K (cond b p (e y)) (cond b q (e' y))) (K' (cond b p (e y)) (cond b q (e' y)))
+    go : (b : Bool) → As (cond b Even (st y)) (K (cond b p (e y)) (cond b q (e' y))) (K' (cond b p (e y)) (cond b q (e' y)))
     go true = h
     go false = rel y
 
@@ -88,11 +90,11 @@ formula_kept n k l A C (prefix (Box a) f) K K' kept st cl wl e e' rel =
     kept.direct.box_kept a (ltb-true a k parts.0) _ _ (formula_kept n k l A C f K K' kept st cl parts.1 e e' rel)
 formula_kept n k l A C (prefix (Least x) f) K K' kept st cl wl e e' rel =
     iterate_kept K (λ p. pair_at n A f (at_variable e x p)) (λ p. pair_at n C f (at_variable e' x p))
-    (λ p q h. formula_kept n k l A C f K K' kept (at_variable st x even) cl wl (at_variable e x p) (at_variable e' x q) (related_at K K' st e e' x p q rel h))
+    (λ p q h. formula_kept n k l A C f K K' kept (at_variable st x Even) cl wl (at_variable e x p) (at_variable e' x q) (related_at K K' st e e' x p q rel h))
     none none kept.direct.none_kept n
 formula_kept n k l A C (prefix (Greatest x) f) K K' kept st cl wl e e' rel =
     iterate_kept K (λ p. pair_at n A f (at_variable e x p)) (λ p. pair_at n C f (at_variable e' x p))
-    (λ p q h. formula_kept n k l A C f K K' kept (at_variable st x even) cl wl (at_variable e x p) (at_variable e' x q) (related_at K K' st e e' x p q rel h))
+    (λ p q h. formula_kept n k l A C f K K' kept (at_variable st x Even) cl wl (at_variable e x p) (at_variable e' x q) (related_at K K' st e e' x p q rel h))
     every every kept.direct.every_kept n
 formula_kept n k l A C (binary o f g) K K' kept st cl wl e e' rel =
     let closeds = and_parts (closed_under st f) (closed_under st g) cl in
@@ -101,4 +103,4 @@ formula_kept n k l A C (binary o f g) K K' kept st cl wl e e' rel =
 
 -- In a closed formula no variable is read from outside.
 pub closed_kept : (n k l : ℕ) (A C : Meaning) (f : Formula) (K K' : Pair → Pair → Type 0) → Linked k l A C K K' → closed f ≡ true → within_letters k l f ≡ true → K (pair_at n A f nothing) (pair_at n C f nothing)
-closed_kept n k l A C f K K' kept cl wl = formula_kept n k l A C f K K' kept (λ x. unbound) cl wl nothing nothing (λ x. tt)
+closed_kept n k l A C f K K' kept cl wl = formula_kept n k l A C f K K' kept (λ x. Free) cl wl nothing nothing (λ x. tt)

@@ -3,7 +3,9 @@
 use Rattle.std.proofs.Common.{◌≡◌, ℕ, ◌<◌, true, sym, refl, subst}
 use Rattle.systems.specs.Meaning.{Meaning, states}
 use Rattle.calculus.specs.declared.syntax.Variable.{Variable}
-use Rattle.calculus.specs.Formula.{Formula, at_variable, Standing, even, closed_under, within_letters}
+use Rattle.calculus.specs.Formula.{Formula, at_variable, closed_under, within_letters}
+use Rattle.calculus.specs.declared.syntax.Standing.{Standing}
+use Rattle.calculus.specs.declared.syntax.Standing.TheVariants.{Even}
 use Rattle.calculus.specs.Pairs.{Pair, Within}
 use Rattle.logic.proofs.Denotation.{pair_at}
 use Rattle.logic.proofs.Fixed.{Monotone}
@@ -53,8 +55,8 @@ module _ (n k l : ℕ) (M : Meaning) (f : Formula) (st : Variable → Standing) 
 abbrev pub body : ℕ → Meaning → Formula → (Variable → Pair) → Variable → Pair → Pair
 body n M f e x p = pair_at n M f (at_variable e x p)
 
-pub ordered_at : (n : ℕ) (st : Variable → Standing) (e : Variable → Pair) (x : Variable) (p q : Pair) → Within n p q → Ordered n (at_variable st x even) (at_variable e x p) (at_variable e x q)
+pub ordered_at : (n : ℕ) (st : Variable → Standing) (e : Variable → Pair) (x : Variable) (p q : Pair) → Within n p q → Ordered n (at_variable st x Even) (at_variable e x p) (at_variable e x q)
 ordered_at n st e x p q = related_at (Within n) (λ p q. Within n q p) st e e x p q (λ y. as_both (Within n (e y) (e y)) (Within n (e y) (e y)) (st y) (within_refl n (e y)) (within_refl n (e y)))
 
-pub body_monotone : (n k l : ℕ) (M : Meaning) (f : Formula) (st : Variable → Standing) (e : Variable → Pair) (x : Variable) → closed_under (at_variable st x even) f ≡ true → within_letters k l f ≡ true → Monotone (states M) (body n M f e x)
-body_monotone n k l M f st e x cl wl p q h = monotone n k l M f (at_variable st x even) cl wl (at_variable e x p) (at_variable e x q) (ordered_at (states M) st e x p q h)
+pub body_monotone : (n k l : ℕ) (M : Meaning) (f : Formula) (st : Variable → Standing) (e : Variable → Pair) (x : Variable) → closed_under (at_variable st x Even) f ≡ true → within_letters k l f ≡ true → Monotone (states M) (body n M f e x)
+body_monotone n k l M f st e x cl wl p q h = monotone n k l M f (at_variable st x Even) cl wl (at_variable e x p) (at_variable e x q) (ordered_at (states M) st e x p q h)

@@ -2,7 +2,8 @@
 use Rattle.std.proofs.Common.{◌≡◌, ℕ, ◌*◌, ◌≤◌, true, sym, subst, arith}
 use Rattle.systems.specs.Meaning.{Meaning, states, actions, lamps}
 use Rattle.systems.specs.Refinement.{Alike}
-use Rattle.calculus.specs.Formula.{Formula, unbound, within_letters}
+use Rattle.calculus.specs.Formula.{Formula, within_letters}
+use Rattle.calculus.specs.declared.syntax.Standing.TheVariants.{Free}
 use Rattle.calculus.specs.Pairs.{Pair, Same}
 use Rattle.calculus.specs.Marks.{Means, nothing}
 use Rattle.logic.specs.Theorems.{Question, OnePair}
@@ -14,10 +15,10 @@ use Rattle.logic.proofs.Unique.{unique}
 
 module _ (n : ℕ) (M : Meaning) (far : states M * 2 ≤ n) (f : Formula) (q : Question M f) where
   pub question_computed : Means M f nothing (pair_at n M f nothing)
-  question_computed = computed n (actions M) (lamps M) M far f (λ x. unbound) q.bound q.lettered nothing
+  question_computed = computed n (actions M) (lamps M) M far f (λ x. Free) q.bound q.lettered nothing
 
   pub question_same : (p : Pair) → Means M f nothing p → Same (states M) p (pair_at n M f nothing)
-  question_same = same_as_computed (actions M) (lamps M) M f (λ x. unbound) q.bound q.lettered n far nothing
+  question_same = same_as_computed (actions M) (lamps M) M f (λ x. Free) q.bound q.lettered n far nothing
 
 pub one_pair : OnePair
 one_pair M f q =

@@ -1,6 +1,5 @@
-pub mod Binders
 pub mod Entered
 pub mod Filled
+pub mod Letters
+pub mod Binders
 pub mod Iterated
-pub mod Leaves
-pub mod Parts

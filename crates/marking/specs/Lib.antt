@@ -1,5 +1,5 @@
 pub mod Evaluated
 pub mod Holding
-pub mod Signs
+pub mod Moves
 pub mod Standing
 pub mod Values

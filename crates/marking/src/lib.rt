@@ -6,7 +6,6 @@ mod evaluation;
 mod marks;
 mod moves;
 mod signs;
-mod values;
 
 pub use evaluation::evaluate;
 pub use marks::mark_at;

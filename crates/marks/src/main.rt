@@ -4,7 +4,6 @@
 
 use cases::Case;
 use frames::{Draft, Frame};
-use listings::Rejection;
 use questions::Questions;
 use std::io;
 use std::io::{Read, Write};
@@ -16,39 +15,21 @@ fn main(rt: HostRuntime) -> io::Result<()> {
     let mut questions = Questions::new();
     match listings::parse(&mut questions, text.as_slice()) {
         Ok(()) => print_marks(&rt, questions, text.as_slice()),
-        Err(rejection) => print_rejection(&rt, rejection),
+        Err(rejection) => println!(rt; "{rejection}"),
     }
 }
 
 // The formulas are the last lines of the text.
 fn print_marks(rt: &HostRuntime, questions: Questions, text: &[u8]) -> io::Result<()> {
-    let count = questions.count;
+    let lines = text.iter().filter(|b| **b == b'\n').count();
+    let before = lines.saturating_sub(questions.count);
     // Marks ask nothing of a controller, so the smallest system stands in.
     let case = Case::open(questions.draft, Draft::new().into_frame());
     println!(rt; "state mark formula")?;
-    let total = lines_in(text);
-    let mut at = 0;
-    for i in 0..total {
-        let end = text::find(text, at, b'\n');
-        if end >= text.len() {
-            return Ok(());
-        }
-        if total - i <= count {
-            print_formula(rt, &case, &text[at..end])?;
-        }
-        at = end + 1;
+    for formula in text.split(|b| *b == b'\n').take(lines).skip(before) {
+        print_formula(rt, &case, formula)?;
     }
     Ok(())
-}
-
-fn lines_in(text: &[u8]) -> usize {
-    let mut count: usize = 0;
-    for b in text {
-        if *b == b'\n' {
-            count = count.saturating_add(1);
-        }
-    }
-    count
 }
 
 // A line for each state of the frame.
@@ -58,21 +39,11 @@ fn print_formula(rt: &HostRuntime, case: &Case<Frame>, formula: &[u8]) -> io::Re
     };
     let mut out = Vec::new(rt.alloc());
     for state in 0..case.frame().sizes().states {
-        let word = match marking::mark_at(sets, state) {
-            calculus::Mark::True => "true",
-            calculus::Mark::False => "false",
-            calculus::Mark::Unknown => "unknown",
-        };
-        let head = format!(in rt.alloc(); "{state} {word} ")?;
+        let mark = marking::mark_at(sets, state);
+        let head = format!(in rt.alloc(); "{state} {mark} ")?;
         out.extend_from_slice(head.as_bytes())?;
         out.extend_from_slice(formula)?;
         out.push(b'\n')?;
     }
     rt.stdout().write_all(out.as_slice())
-}
-
-fn print_rejection(rt: &HostRuntime, rejection: Rejection) -> io::Result<()> {
-    let number = rejection.refusal.number();
-    let line = rejection.line;
-    println!(rt; "refusal line\n{number} {line}")
 }

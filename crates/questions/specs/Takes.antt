@@ -3,11 +3,9 @@ use Rattle.std.specs.Prelude.{◌≡◌, ℕ, suc, ◌<◌, ◌≤◌, Bool, ◌
 use Rattle.std.specs.Str.{bytes_eq}
 use Rattle.calculus.specs.Formula.{Formula}
 use Rattle.formulas.specs.Readings.{Accepted, Refused}
-use Rattle.listings.specs.Parts.{step, made_after, may_end}
-use Rattle.listings.specs.Readings.{verdict_at, stage_then}
-use Rattle.listings.specs.Runs.{Verdict, rejected}
+use Rattle.listings.specs.Parts.{step, stage_then, made_after, may_end}
+use Rattle.listings.specs.Runs.{Verdict, rejected, verdict_at}
 use Rattle.listings.specs.declared.part.Stage.{Stage}
-use Rattle.listings.specs.declared.rejection.Rejection.{Rejection}
 use Rattle.systems.specs.Making.{Making}
 use Rattle.systems.specs.Meaning.{Meaning, actions, lamps}
 use Rattle.systems.specs.declared.refusal.Refusal.{Refusal}
@@ -53,6 +51,6 @@ Takes m (Part stage) count n l m' phase' count' v = (count' ≡ count) × MatchB
 Takes m Formulas count n l m' phase' count' v = InFormulas m n l count m' phase' count' v
 
 -- the same with the new count in the answer
-abbrev pub Counted : Meaning → ℕ → List ℕ → ℕ → Result ℕ Rejection → Type 0
+abbrev pub Counted : Meaning → ℕ → List ℕ → ℕ → Result ℕ Refusal → Type 0
 Counted M n l count (Ok count') = Asked M n l count count' (Ok tt)
-Counted M n l count (Err e) = Asked M n l count count (Err e)
+Counted M n l count (Err e) = Asked M n l count count (Err (rejected e n))

@@ -1,11 +1,13 @@
-ghost use Rattle.std.specs.Prelude.{◌≡◌};
-ghost use Rattle.frames.specs.Drafts.{drafting, first_sizes};
+// A frame's listing and then formulas, taken line by line.
+ghost use Rattle.std.specs.Prelude.{◌≡◌, ℕ};
+ghost use Rattle.frames.specs.Drafts.{drafting};
 ghost use Rattle.frames.specs.Frames.{draft_meaning};
 ghost use Rattle.questions.specs.Phases.{in_formulas};
 ghost use Rattle.questions.specs.Takes.{Takes, Counted, begins};
+ghost use Rattle.listings.specs.Runs.{verdict_at};
 ghost use Rattle.listings.specs.declared.part.Stage.TheVariants.{SizesNames};
 ghost use Rattle.questions.specs.declared.phase.Phase.TheVariants.{Part};
-ghost use Rattle.systems.specs.Meaning.{blank};
+ghost use Rattle.systems.specs.Meaning.{blank, first_sizes};
 
 use crate::phase::Phase;
 use formulas::Sentence;
@@ -43,29 +45,37 @@ impl Questions {
 fn begins_formulas(stage: Stage, line: &[u8]) -> bool
     ensures { result ≡ begins stage line.now }
 {
-    stage.may_end() & text::same(line, b"formula")
+    stage.may_end() && text::same(line, b"formula")
 }
 
 // The count of formulas after this line, where so many came before.
-fn ask(draft: &Draft, count: usize, number: usize, line: &[u8]) -> Result<usize, Rejection>
-    ensures { Counted (draft_meaning draft.now) number line.now count result }
+fn ask(draft: &Draft, count: usize, line: &[u8]) -> Result<usize, Refusal>
+    ensures { (n : ℕ) → Counted (draft_meaning draft.now) n line.now count result }
 {
     let sizes = draft.frame().sizes();
-    match Sentence::read(line, sizes.actions, sizes.lamps) {
-        Err(refusal) => Err(Rejection {
-            refusal,
-            line: number,
-        }),
-        Ok(_) => {
-            if count < MOST {
-                Ok(count + 1)
-            } else {
-                Err(Rejection {
-                    refusal: Refusal::Full,
-                    line: number,
-                })
-            }
+    Sentence::read(line, sizes.actions, sizes.lamps)?;
+    if count < MOST {
+        Ok(count + 1)
+    } else {
+        Err(Refusal::Full)
+    }
+}
+
+impl Questions {
+    // Takes one line, without its line feed.
+    fn take_line(&mut self, line: &[u8]) -> Result<(), Refusal>
+        ensures { (n : ℕ) → Takes (drafting (draft_meaning self.old.draft)) self.old.phase self.old.count n line.now (drafting (draft_meaning self.new.draft)) self.new.phase self.new.count (verdict_at n result) }
+    {
+        match self.phase {
+            Phase::Part(stage) if begins_formulas(stage, line) => self.phase = Phase::Formulas,
+            Phase::Part(stage) => self.phase = Phase::Part(take_line(
+                &mut self.draft,
+                stage,
+                line,
+            )?),
+            Phase::Formulas => self.count = ask(&self.draft, self.count, line)?,
         }
+        Ok(())
     }
 }
 
@@ -75,37 +85,13 @@ impl LineParser for Questions {
     ghost complete = { λ p. in_formulas p.phase };
 
     fn take(&mut self, number: usize, line: &[u8]) -> Result<(), Rejection> {
-        match self.phase {
-            Phase::Part(stage) => {
-                if begins_formulas(stage, line) {
-                    self.phase = Phase::Formulas;
-                    return Ok(());
-                }
-                match take_line(&mut self.draft, stage, line) {
-                    Ok(next) => {
-                        self.phase = Phase::Part(next);
-                        Ok(())
-                    }
-                    Err(refusal) => Err(Rejection {
-                        refusal,
-                        line: number,
-                    }),
-                }
-            }
-            Phase::Formulas => match ask(&self.draft, self.count, number, line) {
-                Ok(count) => {
-                    self.count = count;
-                    Ok(())
-                }
-                Err(e) => Err(e),
-            },
-        }
+        self.take_line(line).map_err(|refusal| Rejection {
+            refusal,
+            line: number,
+        })
     }
 
     fn is_complete(&self) -> bool {
-        match self.phase {
-            Phase::Part(_) => false,
-            Phase::Formulas => true,
-        }
+        matches!(self.phase, Phase::Formulas)
     }
 }

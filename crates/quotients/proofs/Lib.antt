@@ -1,4 +1,1 @@
-pub mod Below
 pub mod Loads
-pub mod Stepped
-pub mod Runs

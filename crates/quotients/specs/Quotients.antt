@@ -2,14 +2,11 @@
 use Rattle.std.specs.Prelude.{ℕ, List, Ok, Err, nat_eq}
 use Rattle.folds.specs.Folds.{class_of, fold_meaning}
 use Rattle.folds.specs.Readings.{Abstraction}
-use Rattle.listings.specs.Runs.{Verdict}
 use Rattle.listings.specs.declared.part.Stage.TheVariants.{SizesNames}
-use Rattle.systems.specs.Meaning.{Meaning}
+use Rattle.systems.specs.Meaning.{Meaning, first_sizes}
 use Rattle.systems.specs.Refinement.{Refines}
 use Rattle.tables.specs.Entries.{table_making}
-use Rattle.tables.specs.Tables.{first_sizes}
-use Rattle.tables.specs.declared.entries.LightEntry.{LightEntry}
-use Rattle.tables.specs.declared.entries.MoveEntry.{MoveEntry}
+use Rattle.systems.specs.Entries.{MoveEntry, LightEntry}
 use Rattle.quotients.specs.Maps.{fresh}
 use Rattle.quotients.specs.Outcomes.{Outcome, reading}
 use Rattle.quotients.specs.Steps.{Progress}
@@ -19,12 +16,9 @@ use Rattle.quotients.specs.declared.phase.Phase.TheVariants.{Part}
 abbrev pub first : List MoveEntry → List LightEntry → Progress
 first ms ls = record { phase = Part SizesNames; made = table_making first_sizes ms 0 ls 0; map = fresh 1 }
 
+-- what a whole text comes to, with two lists to hold its system
 abbrev pub reading_into : List MoveEntry → List LightEntry → List ℕ → Outcome
 reading_into ms ls t = reading (first ms ls) t
-
-abbrev pub verdict_of : Outcome → Verdict
-verdict_of (Ok p) = Ok tt
-verdict_of (Err e) = Err e
 
 -- the fold of the text's system by its map, or what was there before
 abbrev pub quotient_after : Outcome → Meaning → Meaning

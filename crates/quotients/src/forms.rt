@@ -13,7 +13,8 @@ pub(crate) fn class_of(line: &[u8]) -> Option<ClassLine>
     ensures { result ≡ class_in line.now }
 {
     let (state, class) = text::cut_at(line, b' ')?;
-    let state = text::number(state)?;
-    let class = text::number(class)?;
-    Some(ClassLine { state, class })
+    Some(ClassLine {
+        state: text::number(state)?,
+        class: text::number(class)?,
+    })
 }

@@ -1,9 +1,12 @@
 // A quotient's text, read line by line into a table and a map.
-ghost use Rattle.std.specs.Prelude.{◌≡◌, ◌≤◌};
-ghost use Rattle.quotients.specs.Forms.{class_in};
+ghost use Rattle.std.specs.Prelude.{◌≡◌, ◌≤◌, ◌&&◌};
+ghost use Rattle.std.specs.Str.{bytes_eq};
+ghost use Rattle.listings.specs.Parts.{may_end as part_may_end};
+ghost use Rattle.listings.specs.Runs.{next_of};
+ghost use Rattle.quotients.specs.Forms.{classes_names, class_in};
 ghost use Rattle.quotients.specs.Progress.{progress_of};
 ghost use Rattle.quotients.specs.Quotients.{first};
-ghost use Rattle.quotients.specs.Steps.{step, part_step, count_step, names_step, class_step, answer_of, next_of};
+ghost use Rattle.quotients.specs.Steps.{step, part_step, count_step, names_step, class_step, answer_of};
 ghost use Rattle.systems.specs.Meaning.{states};
 ghost use Rattle.tables.specs.Tables.{making_of};
 ghost use Rattle.text.specs.Numbers.{numeral};
@@ -12,8 +15,8 @@ use crate::forms::class_of;
 use crate::map::ClassMap;
 use crate::phase::Phase;
 use listings::Stage;
-use systems::{Refusal, System};
-use tables::{LightEntry, MoveEntry, Table};
+use systems::{LightEntry, MoveEntry, Refusal, System};
+use tables::Table;
 
 // The lines of names, without their line feeds.
 const CLASSES_NAMES: &[u8] = b"classes";
@@ -33,6 +36,13 @@ fn states_of(table: &Table) -> usize
     ensures few { result ≤ 256 }
 {
     table.read().sizes().states
+}
+
+// Whether the line is the one of names that ends the part.
+fn ends_part(stage: Stage, line: &[u8]) -> bool
+    ensures { result ≡ (part_may_end stage && bytes_eq line.now classes_names) }
+{
+    stage.may_end() && text::same(line, CLASSES_NAMES)
 }
 
 impl<'a> QuotientParser<'a> {
@@ -64,12 +74,11 @@ impl<'a> QuotientParser<'a> {
         ensures answer { result ≡ answer_of (part_step stage (progress_of self.old) line.now) }
         ensures after { progress_of self.new ≡ next_of (part_step stage (progress_of self.old) line.now) (progress_of self.old) }
     {
-        if stage.may_end() && text::same(line, CLASSES_NAMES) {
+        if ends_part(stage, line) {
             self.phase = Phase::Count;
             return Ok(());
         }
-        let next = listings::take_line(&mut self.table, stage, line)?;
-        self.phase = Phase::Part(next);
+        self.phase = Phase::Part(listings::take_line(&mut self.table, stage, line)?);
         Ok(())
     }
 
@@ -77,41 +86,28 @@ impl<'a> QuotientParser<'a> {
         ensures answer { result ≡ answer_of (count_step (progress_of self.old) (numeral line.now)) }
         ensures after { progress_of self.new ≡ next_of (count_step (progress_of self.old) (numeral line.now)) (progress_of self.old) }
     {
-        match text::number(line) {
-            None => Err(Refusal::Form),
-            Some(count) => {
-                if count == 0 || count > 64 {
-                    return Err(Refusal::States);
-                }
-                self.map = ClassMap::blank(count);
-                self.phase = Phase::MapNames;
-                Ok(())
-            }
-        }
+        let count = text::number(line).ok_or(Refusal::Form)?;
+        self.map = ClassMap::check(count)?;
+        self.phase = Phase::MapNames;
+        Ok(())
     }
 
     fn take_names(&mut self, line: &[u8]) -> Result<(), Refusal>
         ensures answer { result ≡ answer_of (names_step (progress_of self.old) line.now) }
         ensures after { progress_of self.new ≡ next_of (names_step (progress_of self.old) line.now) (progress_of self.old) }
     {
-        if text::same(line, MAP_NAMES) {
-            self.phase = Phase::Map;
-            Ok(())
-        } else {
-            Err(Refusal::Form)
+        if !text::same(line, MAP_NAMES) {
+            return Err(Refusal::Form);
         }
+        self.phase = Phase::Map;
+        Ok(())
     }
 
     fn take_class(&mut self, line: &[u8]) -> Result<(), Refusal>
         ensures answer { result ≡ answer_of (class_step (progress_of self.old) (class_in line.now)) }
         ensures after { progress_of self.new ≡ next_of (class_step (progress_of self.old) (class_in line.now)) (progress_of self.old) }
     {
-        match class_of(line) {
-            None => Err(Refusal::Form),
-            Some(entry) => {
-                let states = states_of(&self.table);
-                self.map.name(states, entry.state, entry.class)
-            }
-        }
+        let line = class_of(line).ok_or(Refusal::Form)?;
+        self.map.name(states_of(&self.table), line)
     }
 }

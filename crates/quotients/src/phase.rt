@@ -18,11 +18,6 @@ impl Phase {
     pub(crate) fn may_end(self) -> bool
         ensures { result ≡ may_end self }
     {
-        match self {
-            Phase::Part(_) => false,
-            Phase::Count => false,
-            Phase::MapNames => false,
-            Phase::Map => true,
-        }
+        matches!(self, Phase::Map)
     }
 }

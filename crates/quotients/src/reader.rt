@@ -2,7 +2,9 @@
 ghost use Rattle.std.specs.Prelude.{◌≡◌};
 ghost use Rattle.folds.specs.Folds.{fold_meaning};
 ghost use Rattle.frames.specs.Frames.{draft_meaning};
-ghost use Rattle.quotients.specs.Quotients.{reading_into, verdict_of, quotient_after, Folded, Faithful};
+ghost use Rattle.listings.specs.Runs.{verdict_of};
+ghost use Rattle.quotients.specs.Progress.{map_of};
+ghost use Rattle.quotients.specs.Quotients.{reading_into, quotient_after, Folded, Faithful};
 ghost use Rattle.tables.specs.Tables.{making_of};
 
 use crate::map::ClassMap;
@@ -10,7 +12,8 @@ use crate::parser::QuotientParser;
 use folds::Fold;
 use frames::Draft;
 use listings::Rejection;
-use tables::{LightEntry, MoveEntry, Table};
+use systems::{LightEntry, MoveEntry};
+use tables::Table;
 
 // The draft becomes the fold of the controller by the map that the text describes, which the
 // controller refines. A refused text leaves the draft as it is. The controller is written into the
@@ -26,21 +29,17 @@ pub fn quotient(
     ensures faithful { Faithful (reading_into moves.old lights.old text.now) (draft_meaning draft.new) }
 {
     let mut parser = QuotientParser::new(moves, lights);
-    match listings::parse(&mut parser, text) {
-        Err(e) => Err(e),
-        Ok(()) => {
-            fold_into(draft, &parser.table, &parser.map);
-            Ok(())
-        }
-    }
+    listings::parse(&mut parser, text)?;
+    fold_into(draft, &parser.table, &parser.map);
+    Ok(())
 }
 
 // The draft becomes the fold of the table's system. There are classes, at most as many as a frame
 // has states, and states, so nothing is refused.
 fn fold_into(draft: &mut Draft, table: &Table, map: &ClassMap)
-    ensures after { draft_meaning draft.new ≡ fold_meaning (making_of table.now).system map.now.classes.of map.now.count }
-    ensures folded { Folded (making_of table.now).system map.now.classes.of map.now.count (draft_meaning draft.new) }
+    ensures after { draft_meaning draft.new ≡ fold_meaning (making_of table.now).system (map_of map.now).classes map.now.count }
+    ensures folded { Folded (making_of table.now).system (map_of map.now).classes map.now.count (draft_meaning draft.new) }
 {
-    let fold = Fold::new(table.read(), map.classes, map.count);
-    let _ = draft.load(&fold);
+    let fold = Fold::new(table.read(), map.to_classes(), map.count);
+    draft.load(&fold).unwrap();
 }

@@ -3,7 +3,6 @@
 #![tactic(auto)]
 
 use frames::Draft;
-use listings::Rejection;
 use std::io;
 use std::io::{Read, Write};
 
@@ -12,21 +11,9 @@ fn main(rt: HostRuntime) -> io::Result<()> {
     rt.stdin().read_to_end(&mut text)?;
     let mut draft = Draft::new();
     match listings::read(&mut draft, text.as_slice()) {
-        Ok(()) => print_frame(&rt, &draft),
-        Err(rejection) => print_rejection(&rt, rejection),
+        Ok(()) => rt
+            .stdout()
+            .write_all(output::listing(rt.alloc(), &draft)?.as_slice()),
+        Err(rejection) => println!(rt; "{rejection}"),
     }
-}
-
-fn print_frame(rt: &HostRuntime, draft: &Draft) -> io::Result<()> {
-    let mut out = vec![in rt.alloc(); 0u8; listings::room(draft)]?;
-    match listings::write(draft, &mut out) {
-        Ok(length) => rt.stdout().write_all(&out[0..length]),
-        Err(refusal) => print_rejection(rt, Rejection { refusal, line: 0 }),
-    }
-}
-
-fn print_rejection(rt: &HostRuntime, rejection: Rejection) -> io::Result<()> {
-    let number = rejection.refusal.number();
-    let line = rejection.line;
-    println!(rt; "refusal line\n{number} {line}")
 }

@@ -3,7 +3,7 @@
 #![tactic(auto)]
 
 ghost use Rattle.std.specs.Prelude.{◌≡◌, ℕ, true, false, not, ◌&&◌, ◌||◌, Decides, ◌==◌, nat_lt};
-ghost use Rattle.sets.specs.Sets.{has, width};
+ghost use Rattle.sets.specs.Sets.{has, width, Selected};
 
 pub type Set = u64;
 
@@ -73,4 +73,18 @@ pub fn is_within(a: Set, b: Set) -> bool
     ensures { Decides result ((j : ℕ) → has a j ≡ true → has b j ≡ true) }
 {
     a & b == a
+}
+
+// The numbers below `n` that pass a test, as far as a set goes. The test is made once for each.
+pub fn select<F: Fn(usize) -> bool>(n: usize, test: F) -> Set
+    requires { F.IsAlwaysCallable test }
+    ensures { Selected n (F.post test) result }
+{
+    let mut found = empty();
+    for i in 0..n.min(WIDTH) {
+        if test(i) {
+            found = with(found, i);
+        }
+    }
+    found
 }

@@ -5,3 +5,4 @@ pub mod Refinement
 pub mod Refusals
 pub mod Edits
 pub mod Making
+pub mod Entries

@@ -2,11 +2,11 @@
 -- takes.
 use Rattle.std.specs.Prelude.{ℕ, pred, Bool, false, cond, Some, None, Ok, Err, Option, ◌==◌}
 use Rattle.std.specs.Option.{option_map}
-use Rattle.systems.specs.declared.kinds.Sizes.{Sizes}
+use Rattle.systems.specs.declared.places.Sizes.{Sizes}
 use Rattle.systems.specs.declared.kinds.Kind.{Kind}
 use Rattle.systems.specs.declared.kinds.Light.{Light}
 use Rattle.systems.specs.declared.refusal.Refusal.TheVariants.{Full}
-use Rattle.systems.specs.Edits.{Answer, size_answer, draw_answer, light_answer}
+use Rattle.systems.specs.Edits.{Answer, first_refusal, size_answer, draw_answer, light_answer}
 use Rattle.systems.specs.Meaning.{Meaning, blank, with_move, with_light}
 
 -- places for moves and for lights, where they are counted
@@ -28,11 +28,6 @@ pub record Making : Type 0 where
   -- the places that there are, and those that are left
   pub capacity : Places
   pub places : Places
-
--- the first refusal of two
-abbrev pub first_refusal : Answer → Answer → Answer
-first_refusal (Ok u) b = b
-first_refusal (Err e) b = Err e
 
 abbrev pub room_answer : Option ℕ → Answer
 room_answer p = cond (is_full p) (Err Full) (Ok tt)

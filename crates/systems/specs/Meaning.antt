@@ -4,7 +4,7 @@ use Rattle.systems.specs.declared.kinds.Kind.{Kind}
 use Rattle.systems.specs.declared.kinds.Kind.TheVariants.{Absent}
 use Rattle.systems.specs.declared.kinds.Light.{Light}
 use Rattle.systems.specs.declared.kinds.Light.TheVariants.{Unknown}
-use Rattle.systems.specs.declared.kinds.Sizes.{Sizes}
+use Rattle.systems.specs.declared.places.Sizes.{Sizes}
 use Rattle.systems.specs.Words.{possible, known}
 
 pub record Meaning : Type 0 where
@@ -39,6 +39,10 @@ pub record Lawful (M : Meaning) : Type 0 where
   pub without_states : states M ≡ 0 → (actions M ≡ 0) × (lamps M ≡ 0) × (M.sizes.start ≡ 0)
   pub moves_within : (s a t : ℕ) → possible (M.kind s a t) ≡ true → move_within M.sizes s a t ≡ true
   pub lights_within : (s l : ℕ) → known (M.light s l) ≡ true → light_within M.sizes s l ≡ true
+
+-- the sizes that work begins with: one state, which is the start, no actions and no lamps
+abbrev pub first_sizes : Sizes
+first_sizes = record { states = 1; actions = 0; lamps = 0; start = 0 }
 
 -- the system of these sizes with no moves, and every lamp unknown
 abbrev pub blank : Sizes → Meaning

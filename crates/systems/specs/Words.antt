@@ -25,6 +25,11 @@ optional Absent = false
 optional Optional = true
 optional Certain = false
 
+-- a move that is there if one of the modality is asked for: the possible moves, or the certain ones
+abbrev pub among : Modality → Kind → Bool
+among May = possible
+among Must = certain
+
 abbrev pub drawn : Modality → Kind
 drawn May = Optional
 drawn Must = Certain
@@ -43,6 +48,11 @@ abbrev pub is_off : Light → Bool
 is_off Unknown = false
 is_off On = false
 is_off Off = true
+
+-- a lamp that shows the setting
+abbrev pub shows : Setting → Light → Bool
+shows TurnOn = is_on
+shows TurnOff = is_off
 
 abbrev pub shown : Setting → Light
 shown TurnOn = On

@@ -5,7 +5,8 @@ ghost use Rattle.systems.specs.Edits.{after};
 ghost use Rattle.systems.specs.Making.{Making, sized, sized_answer, moved, moved_answer, lit, lit_answer};
 ghost use Rattle.systems.specs.Words.{drawn, shown};
 
-use crate::kinds::{Modality, Setting, Sizes};
+use crate::kinds::{Modality, Setting};
+use crate::places::{LampAt, Move, Sizes};
 use crate::refusal::Refusal;
 
 pub trait Builder {
@@ -17,18 +18,12 @@ pub trait Builder {
         ensures after { making self.new ≡ after result (sized (making self.old) sizes) (making self.old) };
 
     // Adds a move that is not there yet.
-    fn draw(
-        &mut self,
-        from: usize,
-        action: usize,
-        to: usize,
-        modality: Modality,
-    ) -> Result<(), Refusal>
-        ensures answer { result ≡ moved_answer (making self.old) from action to }
-        ensures after { making self.new ≡ after result (moved (making self.old) from action to (drawn modality)) (making self.old) };
+    fn draw(&mut self, at: Move, modality: Modality) -> Result<(), Refusal>
+        ensures answer { result ≡ moved_answer (making self.old) at.from at.action at.to }
+        ensures after { making self.new ≡ after result (moved (making self.old) at.from at.action at.to (drawn modality)) (making self.old) };
 
     // Turns an unknown lamp of a state on or off.
-    fn light(&mut self, state: usize, lamp: usize, setting: Setting) -> Result<(), Refusal>
-        ensures answer { result ≡ lit_answer (making self.old) state lamp }
-        ensures after { making self.new ≡ after result (lit (making self.old) state lamp (shown setting)) (making self.old) };
+    fn light(&mut self, at: LampAt, setting: Setting) -> Result<(), Refusal>
+        ensures answer { result ≡ lit_answer (making self.old) at.state at.lamp }
+        ensures after { making self.new ≡ after result (lit (making self.old) at.state at.lamp (shown setting)) (making self.old) };
 }

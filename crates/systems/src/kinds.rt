@@ -15,11 +15,7 @@ impl Kind {
     pub fn is_possible(self) -> bool
         ensures { result ≡ possible self }
     {
-        match self {
-            Kind::Absent => false,
-            Kind::Optional => true,
-            Kind::Certain => true,
-        }
+        matches!(self, Kind::Optional | Kind::Certain)
     }
 
     pub fn is_optional(self) -> bool
@@ -31,11 +27,7 @@ impl Kind {
     pub fn is_certain(self) -> bool
         ensures { result ≡ certain self }
     {
-        match self {
-            Kind::Absent => false,
-            Kind::Optional => false,
-            Kind::Certain => true,
-        }
+        matches!(self, Kind::Certain)
     }
 }
 
@@ -46,11 +38,12 @@ pub enum Modality {
     Must,
 }
 
-impl Modality {
-    pub fn kind(self) -> Kind
-        ensures { result ≡ drawn self }
-    {
-        match self {
+// The kind of a move that is drawn so.
+impl From<Modality> for Kind {
+    ghost from_gives = { λ m k. k ≡ drawn m };
+
+    fn from(modality: Modality) -> Kind {
+        match modality {
             Modality::May => Kind::Optional,
             Modality::Must => Kind::Certain,
         }
@@ -69,31 +62,19 @@ impl Light {
     pub fn is_on(self) -> bool
         ensures { result ≡ is_on self }
     {
-        match self {
-            Light::Unknown => false,
-            Light::On => true,
-            Light::Off => false,
-        }
+        matches!(self, Light::On)
     }
 
     pub fn is_off(self) -> bool
         ensures { result ≡ is_off self }
     {
-        match self {
-            Light::Unknown => false,
-            Light::On => false,
-            Light::Off => true,
-        }
+        matches!(self, Light::Off)
     }
 
     pub fn is_known(self) -> bool
         ensures { result ≡ known self }
     {
-        match self {
-            Light::Unknown => false,
-            Light::On => true,
-            Light::Off => true,
-        }
+        matches!(self, Light::On | Light::Off)
     }
 }
 
@@ -104,22 +85,14 @@ pub enum Setting {
     Off,
 }
 
-impl Setting {
-    pub fn light(self) -> Light
-        ensures { result ≡ shown self }
-    {
-        match self {
+// What a lamp shows that is turned so.
+impl From<Setting> for Light {
+    ghost from_gives = { λ s v. v ≡ shown s };
+
+    fn from(setting: Setting) -> Light {
+        match setting {
             Setting::On => Light::On,
             Setting::Off => Light::Off,
         }
     }
-}
-
-// How many states, actions and lamps a system has, each numbered from 0, and its start state.
-#[derive(Clone, Copy, PartialEq, Eq, Debug)]
-pub struct Sizes {
-    pub states: usize,
-    pub actions: usize,
-    pub lamps: usize,
-    pub start: usize,
 }

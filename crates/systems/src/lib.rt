@@ -2,12 +2,20 @@
 // call of the project answers with.
 #![tactic(auto)]
 
+mod bounds;
 mod builder;
+mod entries;
 mod kinds;
+mod measured;
+mod places;
 mod refusal;
 mod system;
 
+pub use bounds::Bounds;
 pub use builder::Builder;
-pub use kinds::{Kind, Light, Modality, Setting, Sizes};
+pub use entries::{Entry, LightEntry, MoveEntry};
+pub use kinds::{Kind, Light, Modality, Setting};
+pub use measured::Measured;
+pub use places::{LampAt, Move, Sizes};
 pub use refusal::Refusal;
 pub use system::System;

@@ -45,12 +45,12 @@ pub enum Refusal {
     Full,
 }
 
-impl Refusal {
-    // The number by which a refusal is printed.
-    pub fn number(self) -> u8
-        ensures { result ≡ number_of self }
-    {
-        match self {
+// The number by which a refusal is printed.
+impl From<Refusal> for u8 {
+    ghost from_gives = { λ e n. n ≡ number_of e };
+
+    fn from(refusal: Refusal) -> u8 {
+        match refusal {
             Refusal::Length => 1,
             Refusal::Form => 2,
             Refusal::States => 3,

@@ -3,7 +3,8 @@
 ghost use Rattle.std.specs.Prelude.{◌≡◌};
 ghost use Rattle.systems.specs.Meaning.{Meaning, Lawful};
 
-use crate::kinds::{Kind, Light, Sizes};
+use crate::kinds::{Kind, Light};
+use crate::places::{LampAt, Move, Sizes};
 
 pub trait System {
     ghost meaning: { Self → Meaning };
@@ -11,13 +12,13 @@ pub trait System {
     fn sizes(&self) -> Sizes
         ensures { result ≡ (meaning self.now).sizes };
 
-    // The kind of the move from one state to another on an action; absent beyond the sizes.
-    fn kind(&self, from: usize, action: usize, to: usize) -> Kind
-        ensures { result ≡ (meaning self.now).kind from action to };
+    // The kind of a move; absent beyond the sizes.
+    fn kind(&self, at: Move) -> Kind
+        ensures { result ≡ (meaning self.now).kind at.from at.action at.to };
 
     // What a lamp shows in a state; unknown beyond the sizes.
-    fn light(&self, state: usize, lamp: usize) -> Light
-        ensures { result ≡ (meaning self.now).light state lamp };
+    fn light(&self, at: LampAt) -> Light
+        ensures { result ≡ (meaning self.now).light at.state at.lamp };
 
     ghost lawful: { (x : Self) → Lawful (meaning x) };
 }

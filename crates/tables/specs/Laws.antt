@@ -3,14 +3,13 @@ use Rattle.std.proofs.Common.{◌≡◌, Bool, true, false, cond, List, refl, ar
 use Rattle.std.proofs.lemmas.Bool.{false≢true}
 use Rattle.systems.specs.Meaning.{Lawful, move_within, light_within}
 use Rattle.systems.specs.Words.{possible, known}
+use Rattle.systems.specs.declared.bounds.Bounds.{Bounds}
 use Rattle.systems.specs.declared.kinds.Kind.{Kind}
 use Rattle.systems.specs.declared.kinds.Kind.TheVariants.{Absent}
 use Rattle.systems.specs.declared.kinds.Light.{Light}
 use Rattle.systems.specs.declared.kinds.Light.TheVariants.{Unknown}
-use Rattle.tables.specs.Entries.{table_meaning}
-use Rattle.tables.specs.declared.entries.LightEntry.{LightEntry}
-use Rattle.tables.specs.declared.entries.MoveEntry.{MoveEntry}
-use Rattle.tables.specs.declared.header.Header.{Header}
+use Rattle.systems.specs.Entries.{MoveEntry, LightEntry}
+use Rattle.tables.specs.Entries.{entries_meaning}
 
 possible_within : (within : Bool) (k : Kind) → possible (cond within k Absent) ≡ true → within ≡ true
 possible_within true k p = refl
@@ -20,13 +19,13 @@ known_within : (within : Bool) (v : Light) → known (cond within v Unknown) ≡
 known_within true v p = refl
 known_within false v p = absurd (false≢true p)
 
-pub table_lawful : (h : Header) (ms : List MoveEntry) (ls : List LightEntry) → Lawful (table_meaning h.sizes ms h.drawn ls h.lit)
-table_lawful h ms ls = record {
-  few_states = h.few_states;
-  few_actions = h.few_actions;
-  few_lamps = h.few_lamps;
-  started = λ some. h.started;
-  without_states = λ none. absurd (omega (arith, h.some_states));
-  moves_within = λ s a t p. possible_within (move_within h.sizes s a t) _ p;
-  lights_within = λ s l p. known_within (light_within h.sizes s l) _ p;
+pub entries_lawful : (b : Bounds 256) (ms : List MoveEntry) (ls : List LightEntry) → Lawful (entries_meaning b.sizes ms ls)
+entries_lawful b ms ls = record {
+  few_states = b.few_states;
+  few_actions = b.few_actions;
+  few_lamps = b.few_lamps;
+  started = λ some. b.started;
+  without_states = λ none. absurd (omega (arith, b.some_states));
+  moves_within = λ s a t p. possible_within (move_within b.sizes s a t) _ p;
+  lights_within = λ s l p. known_within (light_within b.sizes s l) _ p;
 }

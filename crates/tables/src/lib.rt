@@ -1,14 +1,15 @@
-// Tables: systems of up to 256 states, written into lists of moves and lights that their owner lends.
+// Tables: systems of up to 256 states, written into lists of moves and lights that their owner
+// lends.
 #![tactic(auto)]
 
 mod builds;
-mod entries;
-mod header;
+mod lent;
 mod listed;
 mod lookup;
 mod reading;
 mod table;
 
-pub use entries::{LightEntry, MoveEntry};
+pub use lent::MOST_ENTRIES;
 pub use listed::Listed;
+pub use systems::{LightEntry, MoveEntry};
 pub use table::Table;

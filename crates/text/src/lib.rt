@@ -9,7 +9,7 @@ mod numbers;
 mod writes;
 
 pub use equals::same;
-pub use fields::{cut_at, find};
+pub use fields::{cut_at, find, place_of};
 pub use lines::line;
 pub use numbers::number;
-pub use writes::{write_bytes, write_number};
+pub use writes::Writer;

@@ -3,23 +3,20 @@ ghost use Rattle.std.specs.Prelude.{◌≡◌};
 ghost use Rattle.std.specs.Option.{option_map};
 ghost use Rattle.text.specs.Lines.{lines, line_at};
 
-use crate::fields::find;
+use crate::fields::cut_at;
 
 // The line of a number, counted from 1, without its line feed: that part of `text` itself. Bytes
 // after the last line feed are a line too.
+#[tactic(auto, using(crate::proofs::Feeds::line_later))]
 pub fn line(text: &[u8], number: usize) -> Option<&[u8]>
     ensures { option_map (λ x. x.now) result ≡ line_at (lines text.now) number }
 {
-    let mut at = 0;
-    let mut left = number;
-    while left > 1 && at < text.len() {
-        let end = find(text, at, b'\n');
-        at = if end < text.len() { end + 1 } else { end };
-        left -= 1;
+    let mut rest = text;
+    for _ in 1..number {
+        rest = cut_at(rest, b'\n')?.1;
     }
-    if left == 0 || at >= text.len() {
+    if number == 0 || rest.is_empty() {
         return None;
     }
-    let end = find(text, at, b'\n');
-    Some(&text[at..end])
+    Some(cut_at(rest, b'\n').map_or(rest, |parts| parts.0))
 }

@@ -1,51 +1,53 @@
 // Texts and numbers written into a buffer.
-ghost use Rattle.std.specs.Prelude.{◌≡◌, ◌+◌, ◌<◌};
+ghost use Rattle.std.specs.Prelude.{◌≡◌, ◌+◌, ◌%◌};
 ghost use Rattle.text.specs.Bytes.{written, next_place};
 ghost use Rattle.text.specs.Numbers.{decimal};
 
-// Writes `bytes` into `buffer` from the place `at` on, and answers the place after them; where they
-// do not fit, nothing is written.
-pub fn write_bytes(buffer: &mut [u8], at: usize, bytes: &[u8]) -> usize
-    ensures next { result ≡ next_place buffer.old at bytes.now }
-    ensures after { buffer.new ≡ written buffer.old at bytes.now }
-{
-    // the free room is compared, since at + bytes.len() may pass the largest usize
-    if at > buffer.len() || buffer.len() - at < bytes.len() {
-        return at;
-    }
-    let end = at + bytes.len();
-    buffer[at..end].copy_from_slice(bytes);
-    end
+// A buffer, and the place in it where the next text goes.
+#[derive(Drop)]
+pub struct Writer<'a> {
+    pub buffer: &'a mut [u8],
+    pub at: usize,
 }
 
-// The byte of a digit.
-fn digit(value: usize) -> u8
-    requires { value < 10 }
-    ensures { result ≡ 48 + value }
-{
-    b'0' + value as u8
+impl<'a> Writer<'a> {
+    // Writes `bytes` and steps past them; where they do not fit, nothing changes.
+    pub fn write_bytes(&mut self, bytes: &[u8])
+        ensures after { self.new.buffer.now ≡ written self.old.buffer.now self.old.at bytes.now }
+        ensures place { self.new.at ≡ next_place self.old.buffer.now self.old.at bytes.now }
+        ensures lent { self.new.buffer.ghost_name ≡ self.old.buffer.ghost_name }
+    {
+        // The free room is compared, since self.at + bytes.len() may pass the largest usize.
+        if self.at > self.buffer.len() || self.buffer.len() - self.at < bytes.len() {
+            return;
+        }
+        let end = self.at + bytes.len();
+        self.buffer[self.at..end].copy_from_slice(bytes);
+        self.at = end;
+    }
+
+    // The same of a number's digits, of which there are at most three; a larger one writes nothing.
+    pub fn write_number(&mut self, number: usize)
+        ensures after { self.new.buffer.now ≡ written self.old.buffer.now self.old.at (decimal number) }
+        ensures place { self.new.at ≡ next_place self.old.buffer.now self.old.at (decimal number) }
+        ensures lent { self.new.buffer.ghost_name ≡ self.old.buffer.ghost_name }
+    {
+        let digits = [digit(number / 100), digit(number / 10), digit(number)];
+        // The last three digits are written from the first that is no needless zero on, and a number
+        // that has more of them writes none.
+        let first = match number {
+            0..=9 => 2,
+            10..=99 => 1,
+            100..=999 => 0,
+            _ => 3,
+        };
+        self.write_bytes(&digits[first..]);
+    }
 }
 
-// The same of the digits of a number of at most three; a larger one writes nothing.
-pub fn write_number(buffer: &mut [u8], at: usize, number: usize) -> usize
-    ensures next { result ≡ next_place buffer.old at (decimal number) }
-    ensures after { buffer.new ≡ written buffer.old at (decimal number) }
+// The byte of the last digit of a number.
+fn digit(number: usize) -> u8
+    ensures { result ≡ 48 + number % 10 }
 {
-    if number < 10 {
-        write_bytes(buffer, at, &[digit(number)])
-    } else if number < 100 {
-        write_bytes(buffer, at, &[digit(number / 10), digit(number % 10)])
-    } else if number < 1000 {
-        write_bytes(
-            buffer,
-            at,
-            &[
-                digit(number / 100),
-                digit(number / 10 % 10),
-                digit(number % 10),
-            ],
-        )
-    } else {
-        at
-    }
+    b'0' + (number % 10) as u8
 }

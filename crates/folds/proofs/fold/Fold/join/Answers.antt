@@ -1,53 +1,20 @@
-use Rattle.std.proofs.Common.{◌≡◌, true, ◌≢◌, length, sym, refl, ap, ◌∙◌, arith}
+use Rattle.std.proofs.Common.{◌≡◌, true, length, arith}
+use Rattle.std.proofs.lemmas.Grind.{common_steps}
 use Rattle.systems.specs.Meaning.{states}
-use Rattle.systems.specs.declared.kinds.Sizes.{Sizes}
-use Rattle.systems.specs.declared.refusal.Refusal.TheVariants.{Mismatch, Rows}
+use Rattle.systems.specs.declared.refusal.Refusal.TheVariants.{Rows}
 use Rattle.folds.specs.Folds.{is_map}
-use Rattle.folds.proofs.Joined.{mismatched, wrong_rows, joins, faithful_refused, faithful_joined, class_held}
+use Rattle.folds.proofs.Joined.{faithful_refused, faithful_joined}
 use Rattle.folds.proofs.fold.Fold.join.Goals as goal
 
-pub returns-then-not-is_map : goal.returns-then-not-is_map
-returns-then-not-is_map g c =
-    let f = c.args.self.now in
-    let M = g.S.System.meaning f.system in
-    let cs = f.classes.of in
-    record {
-      answer = mismatched M cs f.count (length c.args.rows.now) (sym c.if-not-is_map.ensures);
-      rows = refl;
-      faithful = faithful_refused M cs f.count (g.met.S.System.lawful f.system) Mismatch c.args.rows.now;
-    }
+pub returns-then-rows-members-clause-faithful : goal.returns-then-rows-members-clause-faithful
+returns-then-rows-members-clause-faithful g c =
+    faithful_refused _ _ _ Rows c.args.rows.now (g.met.S.System.lawful c.args.self.now.system)
 
-pub returns-then-rows-states : goal.returns-then-rows-states
-returns-then-rows-states g c =
+pub returns-clause-faithful : goal.returns-clause-faithful
+returns-clause-faithful g c =
     let f = c.args.self.now in
     let M = g.S.System.meaning f.system in
-    let cs = f.classes.of in
-    let mapped : is_map M cs f.count ≡ true = sym c.if-not-is_map.ensures in
-    let wrong : length c.args.rows.now ≢ states M = omega (arith, ap (λ (z : Sizes). z.states) c.sizes-states.ensures) in
-    record {
-      answer = wrong_rows M cs f.count (length c.args.rows.now) mapped wrong;
-      rows = refl;
-      faithful = faithful_refused M cs f.count (g.met.S.System.lawful f.system) Rows c.args.rows.now;
-    }
-
-pub fill-requires : goal.fill-requires
-fill-requires g c =
-    let f = c.args.self.now in
-    let M = g.S.System.meaning f.system in
-    let cs = f.classes.of in
-    let mapped : is_map M cs f.count ≡ true = sym c.if-not-is_map.ensures in
-    let long : length c.args.rows.now ≡ states M = omega (arith, ap (λ (z : Sizes). z.states) c.sizes-states.ensures) in
-    λ s h. class_held M cs f.count (g.met.S.System.lawful f.system) mapped s (omega arith)
-
-pub returns : goal.returns
-returns g c =
-    let f = c.args.self.now in
-    let M = g.S.System.meaning f.system in
-    let cs = f.classes.of in
-    let mapped : is_map M cs f.count ≡ true = sym c.if-not-is_map.ensures in
-    let long : length c.args.rows.now ≡ states M = omega (arith, ap (λ (z : Sizes). z.states) c.sizes-states.ensures) in
-    record {
-      answer = joins M cs f.count (length c.args.rows.now) mapped long;
-      rows = c.fill.ensures;
-      faithful = faithful_joined M cs f.count (g.met.S.System.lawful f.system) c.fill.new.rows mapped (c.fill.auto.rows ∙ long) c.fill.ensures;
-    }
+    let mapped : is_map M f.classes.of f.count ≡ true = grind (arith, common_steps) in
+    let measured : c.in_ok-members.members.below.sizes.states ≡ states M = grind (arith, common_steps) in
+    let long : length c.fill.new.rows ≡ states M = omega arith in
+    faithful_joined M f.classes.of f.count c.fill.new.rows (g.met.S.System.lawful f.system) mapped long c.fill.ensures

@@ -1,5 +1,11 @@
-use Rattle.quotients.proofs.Below.{below_zeros}
+use Rattle.std.proofs.Common.{◌≡◌, ℕ, zero, suc, get_or, replicate, refl}
 use Rattle.quotients.proofs.map.ClassMap.blank.Goals as goal
 
-pub invariant_of-result : goal.invariant_of-result
-invariant_of-result c = record { some = c.requires.some; few = c.requires.few; below = below_zeros 256 c.args.count c.requires.some }
+-- what every place of a list holds is what is read beyond its end too
+all_same : {A : Type 0} (n s : ℕ) (x : A) → get_or (replicate n x) s x ≡ x
+all_same zero s x = refl
+all_same (suc n) zero x = refl
+all_same (suc n) (suc s) x = all_same n s x
+
+pub invariant_of-result-clause-below : goal.invariant_of-result-clause-below
+invariant_of-result-clause-below c = λ s. simp all_same c.requires.some
