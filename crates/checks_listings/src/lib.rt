@@ -114,6 +114,20 @@ mod tests {
         Ok(())
     }
 
+    // What a program prints of a text that it refuses.
+    #[test]
+    fn the_words_of_a_rejection(rt: HostRuntime) -> Result<(), Fail> {
+        let mut draft = Draft::new();
+        match listings::read(&mut draft, b"states actions lamps start\n65 1 1 0\n") {
+            Ok(()) => Err(Fail::new("read")),
+            Err(rejection) => {
+                let words = format!(in rt.alloc(); "{rejection}")?;
+                assert!(rt; words.as_bytes() == b"refusal line\n3 2".as_slice());
+                Ok(())
+            }
+        }
+    }
+
     #[test]
     fn a_short_buffer_is_left_alone(rt: HostRuntime) -> Result<(), Fail> {
         let mut draft = Draft::new();
