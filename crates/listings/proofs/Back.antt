@@ -36,17 +36,17 @@ moves_named m = leads_line moves_names refl refl
 lights_named : (m : Making) → Leads Moves m (heading lights_names) Lights m
 lights_named m = leads_line lights_names refl refl
 
-reads_back : (M : Meaning) → Framed M → ReadsBack M
+pub reads_back : (M : Meaning) → Framed M → ReadsBack M
 reads_back M framed short =
     let lawful = framed.lawful in
     leads_reads (drafting (blank first_sizes)) (drafting M) (frame_text M) short
-    (leads_as (ap drafting (all_copied M lawful))
+    (leads_as refl (ap drafting (all_copied M lawful))
     (leads_both (sizes_named (drafting (blank first_sizes)))
     (leads_both (sizes_lead M.sizes framed.some_states framed.few_states lawful.few_actions lawful.few_lamps (lawful.started framed.some_states))
     (leads_both (moves_named (drafting (blank M.sizes)))
     (leads_both (moves_lead M framed.few_states lawful.few_actions)
     (leads_both (lights_named (drafting (copied (moves_in M) (λ _. false) M)))
-    (lights_lead M framed.few_states lawful.few_lamps)))))))
+    (lights_lead M (copied (moves_in M) (λ _. false) M) refl (λ s l. refl) framed.few_states lawful.few_lamps)))))))
 
 pub frame_reads_back : (f : Frame) → ReadsBack (meaning_of f)
 frame_reads_back f = reads_back (meaning_of f) (framed f)

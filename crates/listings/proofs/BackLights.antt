@@ -1,5 +1,5 @@
 -- The lights of a system's text, read one after another into a system that has none.
-use Rattle.std.proofs.Common.{◌≡◌, ◌<◌, ◌≤◌, Bool, false, ◌&&◌, eqb, ltb, [], ◌∷◌, ◌++◌, Ok, sym, refl, ap, ◌∙◌, arith}
+use Rattle.std.proofs.Common.{◌≡◌, ℕ, ◌<◌, ◌≤◌, Bool, false, ◌&&◌, eqb, ltb, [], ◌∷◌, ◌++◌, Ok, sym, refl, ap, ◌∙◌, arith}
 use Rattle.std.proofs.lemmas.Bool.Decides.{nat_tests}
 use Rattle.frames.specs.Drafts.{drafting}
 use Rattle.sets.specs.Sets.{width}
@@ -17,7 +17,7 @@ use Rattle.listings.specs.Texts.{light_line, lights_text}
 use Rattle.systems.specs.Entries.{LightEntry}
 use Rattle.listings.specs.declared.part.Stage.TheVariants.{Lights}
 use Rattle.listings.proofs.BackLines.{Leads, leads_none, leads_as, leads_line}
-use Rattle.listings.proofs.Copied.{copied, moves_in, lights_in, that_light, one_light, same_light}
+use Rattle.listings.proofs.Copied.{lit_from, lights_in, that_light, one_light, same_light}
 use Rattle.listings.proofs.Covering.{Covers, covers_over, covers_one}
 use Rattle.listings.proofs.Shown.{light_shown, light_no_feed}
 
@@ -38,15 +38,22 @@ module _ (X : Meaning) (at : LampAt) (few_states : states X ≤ width) (few_lamp
   light_leads On = set_leads TurnOn
   light_leads Off = set_leads TurnOff
 
-module _ (M : Meaning) (few_states : states M ≤ width) (few_lamps : lamps M ≤ 8) where
-  -- all of M's moves, and its lights at the places that q names
+-- M's lights, read into a system B of the same sizes
+module _ (M B : Meaning) (sizes : B.sizes ≡ M.sizes) (unknown : (s l : ℕ) → B.light s l ≡ Unknown) (few_states : states M ≤ width) (few_lamps : lamps M ≤ 8) where
+  same_states : states B ≡ states M
+  same_states i = (sizes i).states
+
+  same_lamps : lamps B ≡ lamps M
+  same_lamps i = (sizes i).lamps
+
+  -- B with M's lights at the places that q names
   abbrev made : (LampAt → Bool) → Making
-  made q = drafting (copied (moves_in M) q M)
+  made q = drafting (lit_from q M B)
 
   one_covers : (at : LampAt) → at.state < states M → at.lamp < lamps M → Covers Lights made (light_line (M.light at.state at.lamp) at.state at.lamp) (that_light at)
   one_covers at in_s in_l = covers_one at (grind (arith, nat_tests)) λ q new.
-      leads_as (ap drafting (one_light M (moves_in M) q at))
-      (light_leads (copied (moves_in M) q M) at few_states few_lamps in_s in_l (rw new) (M.light at.state at.lamp))
+      leads_as refl (ap drafting (one_light M B q at))
+      (light_leads (lit_from q M B) at (omega (arith, same_states)) (omega (arith, same_lamps)) (omega (arith, same_states)) (omega (arith, same_lamps)) (rw new (unknown at.state at.lamp)) (M.light at.state at.lamp))
 
   lights_cover : Covers Lights made (lights_text M) (lights_in M)
   lights_cover =
@@ -54,5 +61,5 @@ module _ (M : Meaning) (few_states : states M ≤ width) (few_lamps : lamps M �
       covers_over (λ x. x.lamp) (λ x b. eqb x.state s && b) (λ x. grind (arith, nat_tests)) _ (lamps M) λ l in_l.
       one_covers (record { state = s; lamp = l }) in_s in_l
 
-  pub lights_lead : Leads Lights (drafting (copied (moves_in M) (λ _. false) M)) (lights_text M) Lights (drafting (copied (moves_in M) (lights_in M) M))
+  pub lights_lead : Leads Lights (drafting B) (lights_text M) Lights (drafting (lit_from (lights_in M) M B))
   lights_lead = lights_cover.leads (λ _. false) (λ x. refl)

@@ -24,9 +24,9 @@ pub record Leads (st : Stage) (m : Making) (t : List ℕ) (st' : Stage) (m' : Ma
 pub leads_none : {st : Stage} {m m' : Making} → m ≡ m' → Leads st m [] st m'
 leads_none {st} {m} {m'} same = record { lead = λ n rest. (n, ap (λ (x : Making). reading_from st x n (lines rest)) same) }
 
--- the same place under another name
-pub leads_as : {st st' : Stage} {m m' m'' : Making} {t : List ℕ} → m' ≡ m'' → Leads st m t st' m' → Leads st m t st' m''
-leads_as to leads = rw (sym to) leads
+-- the same places under other names
+pub leads_as : {st st' : Stage} {m₀ m m' m'' : Making} {t : List ℕ} → m₀ ≡ m → m' ≡ m'' → Leads st m t st' m' → Leads st m₀ t st' m''
+leads_as from to leads = rw (from, sym to) leads
 
 pub leads_both : {st st' st'' : Stage} {m m' m'' : Making} {t u : List ℕ} → Leads st m t st' m' → Leads st' m' u st'' m'' → Leads st m (t ++ u) st'' m''
 leads_both {st} {st'} {st''} {m} {m'} {m''} {t} {u} first second = record {

@@ -45,7 +45,7 @@ module _ (M : Meaning) (few_states : states M ≤ width) (few_actions : actions 
 
   one_covers : (at : Move) → at.from < states M → at.action < actions M → at.to < states M → Covers Moves made (move_line (M.kind at.from at.action at.to) at.from at.action at.to) (that_move at)
   one_covers at in_s in_a in_t = covers_one at (grind (arith, nat_tests)) λ p new.
-      leads_as (ap drafting (one_move M p (λ _. false) at))
+      leads_as refl (ap drafting (one_move M p (λ _. false) at))
       (kind_leads (copied p (λ _. false) M) at few_states few_actions in_s in_a in_t (rw new) (M.kind at.from at.action at.to))
 
   moves_cover : Covers Moves made (moves_text M) (moves_in M)

@@ -18,6 +18,14 @@ copied p q M = record {
   light = λ s l. cond (q (record { state = s; lamp = l })) (M.light s l) Unknown;
 }
 
+-- B with those of M's lights that q names
+abbrev pub lit_from : (LampAt → Bool) → Meaning → Meaning → Meaning
+lit_from q M B = record {
+  sizes = B.sizes;
+  kind = B.kind;
+  light = λ s l. cond (q (record { state = s; lamp = l })) (M.light s l) (B.light s l);
+}
+
 -- all places within the sizes, and one place
 abbrev pub moves_in : Meaning → Move → Bool
 moves_in M x = move_within M.sizes x.from x.action x.to
@@ -46,11 +54,12 @@ module _ (M : Meaning) (p : Move → Bool) (q : LampAt → Bool) where
     light = (copied p q M).light;
   }
 
-  pub one_light : (at : LampAt) → with_light (copied p q M) at.state at.lamp (M.light at.state at.lamp) ≡ copied p (λ x. q x || that_light at x) M
+module _ (M B : Meaning) (q : LampAt → Bool) where
+  pub one_light : (at : LampAt) → with_light (lit_from q M B) at.state at.lamp (M.light at.state at.lamp) ≡ lit_from (λ x. q x || that_light at x) M B
   one_light at i = record {
-    sizes = M.sizes;
-    kind = (copied p q M).kind;
-    light = λ s l. light_added M.light Unknown (q (record { state = s; lamp = l })) at.state at.lamp s l i;
+    sizes = B.sizes;
+    kind = B.kind;
+    light = λ s l. light_added M.light (B.light s l) (q (record { state = s; lamp = l })) at.state at.lamp s l i;
   }
 
 -- where all places are named, an entry that is written again changes nothing
@@ -59,7 +68,7 @@ module _ (X : Meaning) where
   same_move at = one_move X (λ _. true) (λ _. true) at
 
   pub same_light : (at : LampAt) → with_light X at.state at.lamp (X.light at.state at.lamp) ≡ X
-  same_light at = one_light X (λ _. true) (λ _. true) at
+  same_light at = one_light X X (λ _. true) at
 
 absent_there : (k : Kind) (w : Bool) → (possible k ≡ true → w ≡ true) → cond w k Absent ≡ k
 absent_there Absent w within = grind (arith, nat_tests)

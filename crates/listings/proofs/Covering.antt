@@ -1,5 +1,5 @@
 -- Texts that add places to what is made, one after another.
-use Rattle.std.proofs.Common.{◌≡◌, ℕ, zero, suc, ◌<◌, Bool, true, false, ◌&&◌, ◌||◌, eqb, ltb, List, ap, arith}
+use Rattle.std.proofs.Common.{◌≡◌, ℕ, zero, suc, ◌<◌, Bool, true, false, ◌&&◌, ◌||◌, eqb, ltb, List, refl, ap, arith}
 use Rattle.std.proofs.lemmas.Bool.Decides.{nat_tests}
 use Rattle.systems.specs.Making.{Making}
 use Rattle.listings.specs.Texts.{over}
@@ -42,7 +42,7 @@ module _ {A : Type 0} {st : Stage} {made : (A → Bool) → Making} where
     leads = λ p apart.
         let before = covers_over number c never f n (λ i in_n. each i (omega arith)) in
         let here = each n (omega arith) in
-        leads_as (ap made (λ i x. joined (c x) (never x) (p x) (number x) n i))
+        leads_as refl (ap made (λ i x. joined (c x) (never x) (p x) (number x) n i))
         (leads_both
         (before.leads p (λ x. apart_before (c x) (never x) (p x) (number x) n (apart x)))
         (here.leads (λ x. p x || c x (ltb (number x) n)) (λ x. apart_here (c x) (never x) (p x) (number x) n (apart x))));

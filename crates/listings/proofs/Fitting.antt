@@ -24,7 +24,7 @@ light_short On s l in_s = simp length-append (omega (arith, length_decimal_two s
 light_short Off s l in_s = simp length-append (omega (arith, length_decimal_two s in_s))
 
 -- the texts below n take at most c times what is counted, where each does
-over_length : (c n : ℕ) (f : ℕ → List ℕ) (g : ℕ → ℕ) → ((i : ℕ) → i < n → length (f i) ≤ c * g i) → length (over n f) ≤ c * sum_below n g
+pub over_length : (c n : ℕ) (f : ℕ → List ℕ) (g : ℕ → ℕ) → ((i : ℕ) → i < n → length (f i) ≤ c * g i) → length (over n f) ≤ c * sum_below n g
 over_length c zero f g each = omega arith
 over_length c (suc n) f g each =
     omega (arith, over_length c n f g (λ i in_n. each i (omega arith)), each n (omega arith), length-append (over n f) (f n), mul-add c (sum_below n g) (g n))
@@ -43,7 +43,7 @@ module _ (M : Meaning) (few : states M ≤ 64) where
       over_length 17 (lamps M) _ _ λ l in_l.
       light_short (M.light s l) s l (omega arith)
 
-text_fits : (M : Meaning) → Framed M → length (frame_text M) ≤ room_of M
+pub text_fits : (M : Meaning) → Framed M → length (frame_text M) ≤ room_of M
 text_fits M framed =
     let lawful = framed.lawful in
     let few = framed.few_states in

@@ -7,10 +7,10 @@ use Rattle.systems.specs.declared.entries.Entry.{Entry}
 
 module _ {P V : Type 0} (eq : P → P → Bool) (p : P) (v : V) (is : (q : P) → eq p q ≡ true → p ≡ q) where
   -- an entry before it decides elsewhere as it did: it does not fit there
-  passed : (e : Entry P V) (q : P) (here there after : Option V) → cond (eq e.at p) (Some e.value) here ≡ None → (here ≡ None → after ≡ cond (eq p q) (Some v) there) → cond (eq e.at q) (Some e.value) after ≡ cond (eq p q) (Some v) (cond (eq e.at q) (Some e.value) there)
+  pub passed : (e : Entry P V) (q : P) (here there after : Option V) → cond (eq e.at p) (Some e.value) here ≡ None → (here ≡ None → after ≡ cond (eq p q) (Some v) there) → cond (eq e.at q) (Some e.value) after ≡ cond (eq p q) (Some v) (cond (eq e.at q) (Some e.value) there)
   passed e q here there after none more = grind (arith, is q)
 
-  one_more : (es : List (Entry P V)) → first eq es p ≡ None → (q : P) → first eq (es ++ entry p v ∷ []) q ≡ cond (eq p q) (Some v) (first eq es q)
+  pub one_more : (es : List (Entry P V)) → first eq es p ≡ None → (q : P) → first eq (es ++ entry p v ∷ []) q ≡ cond (eq p q) (Some v) (first eq es q)
   one_more [] none q = refl
   one_more (e ∷ es) none q = passed e q (first eq es p) (first eq es q) _ none (λ n. one_more es n q)
 

@@ -2,6 +2,7 @@
 ghost use Rattle.std.specs.Prelude.{◌≡◌, ◌≤◌};
 ghost use Rattle.tables.specs.Entries.{usable};
 
+use std::alloc::AllocError;
 use systems::Refusal;
 
 // The most places of a list that are used.
@@ -14,8 +15,39 @@ pub struct Lent<'a, E> {
     ghost within: { used ≤ usable places.now },
 }
 
+// The same of a list that is lent for reading alone.
+pub struct Entries<'a, E> {
+    pub(crate) places: &'a [E],
+    pub(crate) used: usize,
+    ghost within: { used ≤ usable places.now },
+}
+
+impl<'a, E> Clone for Entries<'a, E> {
+    ghost use Rattle.std.specs.Prelude.{⊤};
+
+    ghost is_clone = { λ x y. y ≡ x };
+
+    ghost is_infallible = { λ _. ⊤ };
+
+    fn clone(&self) -> Result<Entries<'a, E>, AllocError> {
+        Ok(*self)
+    }
+}
+
+impl<'a, E> Copy for Entries<'a, E> {}
+
+impl<'a, E> Entries<'a, E> {
+    ghost use Rattle.std.specs.Prelude.{take};
+
+    pub(crate) fn as_slice(&self) -> &[E]
+        ensures { result.now ≡ take self.now.used self.now.places.now }
+    {
+        &self.places[..self.used]
+    }
+}
+
 impl<'a, E: Copy> Lent<'a, E> {
-    ghost use Rattle.std.specs.Prelude.{◌+◌, ◌-◌, Some, take, slice_set};
+    ghost use Rattle.std.specs.Prelude.{◌+◌, ◌-◌, Some, slice_set};
     ghost use Rattle.systems.specs.Edits.{after};
     ghost use Rattle.systems.specs.Making.{is_full, room_answer};
 
@@ -28,18 +60,23 @@ impl<'a, E: Copy> Lent<'a, E> {
         Lent { places, used: 0 }
     }
 
-    pub(crate) fn entries(&self) -> &[E]
-        ensures { result.now ≡ take self.now.used self.now.places.now }
+    pub(crate) fn entries(&self) -> Entries<'_, E>
+        ensures places { result.places.now ≡ self.now.places.now }
+        ensures used { result.used ≡ self.now.used }
     {
-        &self.places[..self.used]
+        Entries {
+            places: self.places,
+            used: self.used,
+        }
     }
 
     // The entries, with the list lent for reading from now on.
-    pub(crate) fn into_entries(self) -> &'a [E]
-        ensures { result.now ≡ take self.entry.used self.entry.places.now }
+    pub(crate) fn into_entries(self) -> Entries<'a, E>
+        ensures places { result.places.now ≡ self.entry.places.now }
+        ensures used { result.used ≡ self.entry.used }
     {
         let Lent { places, used } = self;
-        &places[..used]
+        Entries { places, used }
     }
 
     fn is_full(&self) -> bool

@@ -1,13 +1,10 @@
 -- The lines of a text.
-use Rattle.std.proofs.Common.{◌≡◌, ℕ, zero, suc, ◌+◌, ◌-◌, ◌<◌, ◌≤◌, true, false, List, [], ◌∷◌, ◌++◌, length, take, drop, Some, refl, arith, MatchOption}
+use Rattle.std.proofs.Common.{◌≡◌, ℕ, zero, suc, ◌-◌, ◌<◌, true, false, List, [], ◌∷◌, ◌++◌, length, Some, refl, arith, MatchOption}
 use Rattle.std.specs.Option.{option_map, option_and_then, unwrap_or}
 use Rattle.std.proofs.lemmas.Bool.Decides.{nat_tests}
-use Rattle.std.proofs.lemmas.Grind.{common_steps}
-use Rattle.std.proofs.lemmas.List.{drop-drop}
-use Rattle.text.specs.Bytes.{before, cut}
+use Rattle.text.specs.Bytes.{cut}
 use Rattle.text.specs.Lines.{lines, line_at}
 use Rattle.text.proofs.Before.{Without}
-use Rattle.text.proofs.Cuts.{cut_place, cut_past}
 
 -- a line with its feed, and the lines after it
 pub lines_feed : (u rest : List ℕ) → Without 10 u → lines (u ++ 10 ∷ rest) ≡ record { bytes = u; ended = true } ∷ lines rest

@@ -1,5 +1,5 @@
 -- Numbers of one to three digits, and their texts.
-use Rattle.std.proofs.Common.{◌≡◌, ℕ, ◌+◌, ◌-◌, ◌*◌, ◌<◌, ◌≤◌, true, cond, nat_lt, nat_le, ◌==◌, not, ◌&&◌, List, [], ◌∷◌, length, get_or, Some, None, Option, refl, arith}
+use Rattle.std.proofs.Common.{◌≡◌, ℕ, ◌+◌, ◌-◌, ◌*◌, ◌<◌, ◌≤◌, true, false, cond, nat_lt, nat_le, ◌==◌, not, ◌&&◌, List, [], ◌∷◌, length, get_or, Some, None, Option, refl, arith}
 use Rattle.std.specs.List.{AllByRecursion as All}
 use Rattle.std.proofs.lemmas.Bool.Decides.{nat_tests}
 use Rattle.text.specs.Numbers.{is_digit, decimal, numeral}
@@ -31,6 +31,9 @@ numeral_read (a ∷ b ∷ c ∷ []) = grind (arith, nat_tests)
 numeral_read (a ∷ b ∷ c ∷ d ∷ w) = grind (arith, nat_tests)
 
 -- how long the text of a number is
+pub length_decimal : (n : ℕ) → n < 1000 → (1 ≤ length (decimal n)) × (length (decimal n) ≤ 3)
+length_decimal n h = grind (arith, nat_tests)
+
 pub length_decimal_two : (n : ℕ) → n < 100 → length (decimal n) ≤ 2
 length_decimal_two n h = grind (arith, nat_tests)
 
@@ -40,6 +43,9 @@ length_decimal_one n h = grind (arith, nat_tests)
 -- each byte of the text of a number is a digit, so a byte that is none does not stand in it
 pub decimal_digits : (n : ℕ) → All (λ b. is_digit b ≡ true) (decimal n)
 decimal_digits n = grind (arith, nat_tests)
+
+pub decimal_without : (b n : ℕ) → is_digit b ≡ false → Without b (decimal n)
+decimal_without b n d = grind (arith, nat_tests)
 
 pub decimal_no_feed : (n : ℕ) → Without 10 (decimal n)
 decimal_no_feed n = grind (arith, nat_tests)

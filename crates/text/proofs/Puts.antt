@@ -1,5 +1,6 @@
 -- A text put into a buffer.
-use Rattle.std.proofs.Common.{◌≡◌, ℕ, ◌+◌, ◌≤◌, List, [], ◌++◌, length, take, drop, append_assoc, arith}
+use Rattle.std.proofs.Common.{◌≡◌, ℕ, ◌+◌, ◌≤◌, leb, List, [], ◌++◌, length, take, drop, refl, append_assoc, add-zero, arith}
+use Rattle.std.proofs.lemmas.Bool.{cond_both}
 use Rattle.std.proofs.lemmas.Grind.{common_steps}
 use Rattle.std.proofs.lemmas.List.{take_at, drop_at, drop-drop}
 use Rattle.text.specs.Bytes.{put, written, next_place}
@@ -26,3 +27,10 @@ put_put buffer at xs ys h =
     let size : length front ≡ n = grind (arith, common_steps) in
     let last : n + length ys ≡ at + length (xs ++ ys) = grind (arith, common_steps) in
     rw (← append_assoc (take at buffer) xs rest, take_at front rest n size, ← drop-drop (length ys) n (front ++ rest), drop_at front rest n size, drop-drop (length ys) n buffer, last) (simp append_assoc)
+
+-- a text with no bytes changes nothing, wherever it is written
+pub written_none : (buffer : List ℕ) (at : ℕ) → written buffer at [] ≡ buffer
+written_none buffer at = cond_both (leb (at + 0) (length buffer)) (put buffer at []) buffer (λ b. b ≡ buffer) (λ _. put_none buffer at) (λ _. refl)
+
+pub next_none : (buffer : List ℕ) (at : ℕ) → next_place buffer at [] ≡ at
+next_none buffer at = cond_both (leb (at + 0) (length buffer)) (at + 0) at (λ n. n ≡ at) (λ _. add-zero at) (λ _. refl)

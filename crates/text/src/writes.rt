@@ -27,21 +27,20 @@ impl<'a> Writer<'a> {
     }
 
     // The same of a number's digits, of which there are at most three; a larger one writes nothing.
+    #[tactic(auto, using(crate::proofs::Puts::written_none, crate::proofs::Puts::next_none))]
     pub fn write_number(&mut self, number: usize)
         ensures after { self.new.buffer.now ≡ written self.old.buffer.now self.old.at (decimal number) }
         ensures place { self.new.at ≡ next_place self.old.buffer.now self.old.at (decimal number) }
         ensures lent { self.new.buffer.ghost_name ≡ self.old.buffer.ghost_name }
     {
-        let digits = [digit(number / 100), digit(number / 10), digit(number)];
-        // The last three digits are written from the first that is no needless zero on, and a number
-        // that has more of them writes none.
-        let first = match number {
-            0..=9 => 2,
-            10..=99 => 1,
-            100..=999 => 0,
-            _ => 3,
-        };
-        self.write_bytes(&digits[first..]);
+        match number {
+            0..=9 => self.write_bytes(&[digit(number)]),
+            10..=99 => self.write_bytes(&[digit(number / 10), digit(number)]),
+            100..=999 => {
+                self.write_bytes(&[digit(number / 100), digit(number / 10), digit(number)]);
+            }
+            _ => {}
+        }
     }
 }
 
