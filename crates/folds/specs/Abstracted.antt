@@ -9,7 +9,7 @@ use Rattle.systems.specs.declared.kinds.Light.TheVariants.{On, Off}
 use Rattle.folds.specs.Folds.{is_map, some_member, every_member, fold_light, folded, fold_meaning, no_sizes}
 use Rattle.folds.specs.Readings.{Member, Abstraction, Exact}
 use Rattle.folds.specs.Quantified.{enters_decides, some_decides, every_decides}
-use Rattle.folds.specs.Words.{possible_made, certain_made, on_made, off_made, is_on_decides, is_off_decides}
+use Rattle.folds.specs.Words.{possible_made, certain_possible, on_made, off_made_apart, is_on_decides, is_off_decides}
 
 pub fold_is : (M : Meaning) (cs : List ℕ) (count : ℕ) →
     is_map M cs count ≡ true → fold_meaning M cs count ≡ folded M cs count
@@ -51,14 +51,14 @@ abstraction M cs count = record {
   possible_moves = λ a x b.
       Decides-at _ _ (possible_made _ _) (some_decides M cs a _ _ (λ s. enters_decides M cs possible s x b));
   certain_moves = λ a x b.
-      Decides-at _ _ (certain_made _ _)
+      Decides-at _ _ (certain_possible _ _)
       (Decides-and _ _ (λ h. h, λ h. h) (every_decides M cs a _ _ (λ s. enters_decides M cs certain s x b)));
   lamps_on = λ a l.
       same_fact _ (is_on_decides (fold_light M cs a l))
       (Decides-at _ _ (on_made _ _ _) (Decides-and _ _ (inhabited M cs a) (all_on M cs a l)));
   lamps_off = λ a l.
       same_fact _ (is_off_decides (fold_light M cs a l))
-      (Decides-at _ _ (off_made _ _ _ (apart M cs a l)) (Decides-and _ _ (inhabited M cs a) (all_off M cs a l)));
+      (Decides-at _ _ (off_made_apart _ _ _ (apart M cs a l)) (Decides-and _ _ (inhabited M cs a) (all_off M cs a l)));
 }
 
 pub exact : (M : Meaning) (cs : List ℕ) (count : ℕ) → Exact M cs count

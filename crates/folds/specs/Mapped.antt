@@ -1,11 +1,11 @@
 -- What a map of states to classes is.
-use Rattle.std.specs.Prelude.{ℕ, ◌<◌, ◌≤◌, Decides, List, nat_le}
-use Rattle.std.proofs.Common.{arith}
-use Rattle.std.proofs.lemmas.Bool.{leb-true, le-leb}
+use Rattle.std.specs.Prelude.{◌≡◌, ℕ, ◌<◌, ◌≤◌, false, Decides, List, nat_le}
+use Rattle.std.proofs.Common.{sym, ap, arith}
+use Rattle.std.proofs.lemmas.Bool.{leb-true, le-leb, cond-false}
 use Rattle.std.proofs.lemmas.Bool.Decides.{Decides-and, Decides-like, Decides-ltb}
 use Rattle.sets.specs.Sets.{width}
-use Rattle.systems.specs.Meaning.{Meaning, Lawful, states}
-use Rattle.folds.specs.Folds.{class_of, is_map}
+use Rattle.systems.specs.Meaning.{Meaning, Lawful, states, blank}
+use Rattle.folds.specs.Folds.{class_of, is_map, folded, fold_meaning, no_sizes}
 use Rattle.folds.specs.Maps.{are_classes}
 use Rattle.systems.proofs.Bounded.{all_decides}
 
@@ -30,3 +30,9 @@ module _ (M : Meaning) (cs : List ℕ) (count : ℕ) where
 
   pub class_below : Lawful M → Mapping M cs count → (s : ℕ) → s < states M → class_of cs s < count
   class_below lawful map s h = map.below s (omega (arith, h, lawful.few_states))
+
+  pub no_fold : is_map M cs count ≡ false → fold_meaning M cs count ≡ blank no_sizes
+  no_fold = cond-false (is_map M cs count) (folded M cs count) (blank no_sizes)
+
+  pub unfolded_sizes : is_map M cs count ≡ false → no_sizes ≡ (fold_meaning M cs count).sizes
+  unfolded_sizes e = ap (λ F. F.sizes) (sym (no_fold e))

@@ -1,6 +1,6 @@
 -- The tests over the members of a class, with quantifiers.
-use Rattle.std.specs.Prelude.{ℕ, Bool, true, false, not, ◌||◌, List, Decides, refl}
-use Rattle.std.proofs.lemmas.Bool.{false≢true}
+use Rattle.std.specs.Prelude.{◌≡◌, ℕ, Bool, true, false, not, ◌||◌, List, ◌==◌, ◌≢◌, nat_lt, Decides, refl}
+use Rattle.std.proofs.lemmas.Bool.{false≢true, ne_eqb, and_right}
 use Rattle.std.proofs.lemmas.Bool.Decides.{Decides-and, Decides-like, Decides-ltb, Decides-eqb}
 use Rattle.systems.proofs.Bounded.{any_decides, all_decides}
 use Rattle.systems.specs.Meaning.{Meaning, states}
@@ -13,10 +13,13 @@ implies true b p q = (λ h _. q.0 h, λ f. q.1 (f (p.0 refl)))
 implies false b p q = (λ _ x. absurd (false≢true (p.1 x)), λ _. refl)
 
 module _ (M : Meaning) (cs : List ℕ) where
-  member_decides : (a s : ℕ) → Decides (member M cs a s) (Member M cs a s)
+  pub member_decides : (a s : ℕ) → Decides (member M cs a s) (Member M cs a s)
   member_decides a s =
       let parts = Decides-and _ _ (Decides-ltb s (states M)) (Decides-eqb (class_of cs s) a) in
       Decides-like _ (λ p. record { state = p.0; class = p.1 }) (λ m. (m.state, m.class)) parts
+
+  pub member_not : (a s : ℕ) → (class_of cs s ≢ a) → member M cs a s ≡ false
+  member_not a s h = and_right (nat_lt s (states M)) (class_of cs s == a) (ne_eqb (class_of cs s) a h)
 
   pub enters_decides : (test : Kind → Bool) (s x b : ℕ) → Decides (enters test M cs s x b) (Enters test M cs s x b)
   enters_decides test s x b =

@@ -2,5 +2,5 @@ pub mod Grids
 pub mod Frames
 pub mod Drafts
 pub mod Loads
--- the lemma by which the law of systems is met: nothing in it has to be believed
+-- lemmas by which the law of systems is met: nothing in them has to be believed
 pub mod Laws
