@@ -1,5 +1,5 @@
 -- Reads of an array by what its entries have in common.
-use Rattle.std.proofs.Common.{◌≡◌, ℕ, zero, suc, ◌+◌, ◌<◌, ◌≤◌, List, get_or, replicate, subst, sym, ⊎_elim, arith}
+use Rattle.std.proofs.Common.{◌≡◌, ℕ, zero, suc, ◌+◌, ◌<◌, ◌≤◌, ◌≢◌, List, length, get_or, set, replicate, subst, sym, ◌∙◌, ⊎_elim, arith, length-set, get_or-set_other, get_or-set_same, below_more}
 use Rattle.std.proofs.lemmas.Bool.{cases_eq, cases_lt}
 use Rattle.std.proofs.lemmas.List.{get_or_past}
 use Rattle.std.specs.Array.{IsFromFnResult, IsFromFnResultFrom}
@@ -31,3 +31,25 @@ made {F} {B} {g} {f} {ys} {n} all P d step beyond k =
     (λ lt. made_from g P f step ys d 0 n k all.each (omega arith) (omega arith))
     (λ le. subst (P k) (sym (get_or_past ys k d (omega (arith, all.long)))) (beyond k le))
     (cases_lt k n)
+
+-- a list that is written one entry after another: those below i have P, and the others are as they were
+pub record Filled {X : Type 0} (P : ℕ → X → Type 0) (d : X) (old xs : List X) (i : ℕ) : Type 0 where
+  pub long : length xs ≡ length old
+  pub done : (k : ℕ) → k < i → P k (get_or xs k d)
+  pub rest : (k : ℕ) → i ≤ k → get_or xs k d ≡ get_or old k d
+
+module _ {X : Type 0} {P : ℕ → X → Type 0} {d : X} {old xs : List X} {i : ℕ} (f : Filled P d old xs i) where
+  pub written : (v : X) → i < length old → P i v → Filled P d old (set xs i v) (i + 1)
+  written v lt here =
+      let within : i < length xs = omega (arith, f.long) in
+      record {
+        long = length-set xs i v ∙ f.long;
+        done = below_more (λ k. P k (get_or (set xs i v) k d)) i
+            (λ k h. let ne : k ≢ i = omega arith in rw get_or-set_other (f.done k h)) (rw get_or-set_same here);
+        rest = λ k h. let ne : k ≢ i = omega arith in rw get_or-set_other (f.rest k (omega arith));
+      }
+
+  -- where the others have P too, all have
+  pub all_filled : ((k : ℕ) → i ≤ k → P k (get_or old k d)) → (k : ℕ) → P k (get_or xs k d)
+  all_filled others k =
+      ⊎_elim (λ lt. f.done k lt) (λ le. subst (P k) (sym (f.rest k le)) (others k le)) (cases_lt k i)

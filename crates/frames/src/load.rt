@@ -1,5 +1,5 @@
 // A draft takes over any system that is small enough, whatever implements it.
-ghost use Rattle.std.specs.Prelude.{◌≡◌, ℕ, slice_index_or, MatchResult, Ok, Err};
+ghost use Rattle.std.specs.Prelude.{◌≡◌, ℕ, false, slice_index_or, MatchResult, Ok, Err};
 ghost use Rattle.sets.specs.Sets.{width};
 ghost use Rattle.systems.specs.Edits.{after, load_answer};
 ghost use Rattle.frames.specs.Frames.{draft_meaning};
@@ -19,9 +19,11 @@ impl Draft {
         ensures after { draft_meaning self.new ≡ after result (S.meaning system.now) (draft_meaning self.old) }
     {
         let small = Small::of(system)?;
+        let mut grid = Grid::blank();
+        small.fill(&mut grid);
         self.frame = Frame {
             bounds: small.bounds,
-            grid: small.grid(),
+            grid,
         };
         Ok(())
     }
@@ -36,7 +38,7 @@ struct Small<'a, S: System> {
 }
 
 impl<'a, S: System> Small<'a, S> {
-    ghost use Rattle.frames.specs.Grids.{blank_row, no_lights};
+    ghost use Rattle.frames.specs.Grids.{may_at, must_at, blank_row, no_lights};
     ghost use Rattle.frames.specs.Loads.{HoldsMoves, HoldsRow, HoldsLights};
 
     fn of(system: &'a S) -> Result<Small<'a, S>, Refusal>
@@ -81,13 +83,16 @@ impl<'a, S: System> Small<'a, S> {
         lights
     }
 
-    fn grid(&self) -> Grid
-        ensures rows { (s : ℕ) → HoldsRow self.now.bounds.sizes (S.meaning self.now.system.now) s (slice_index_or result.rows s blank_row) }
-        ensures lamps { (l : ℕ) → HoldsLights self.now.bounds.sizes (S.meaning self.now.system.now) l (slice_index_or result.lamps l no_lights) }
+    // Fills in a blank table. A row beyond the states stays as it is: most do in a small system.
+    fn fill(&self, grid: &mut Grid)
+        requires no_may { (s a t : ℕ) → may_at grid.old s a t ≡ false }
+        requires no_must { (s a t : ℕ) → must_at grid.old s a t ≡ false }
+        ensures rows { (s : ℕ) → HoldsRow self.now.bounds.sizes (S.meaning self.now.system.now) s (slice_index_or grid.new.rows s blank_row) }
+        ensures lamps { (l : ℕ) → HoldsLights self.now.bounds.sizes (S.meaning self.now.system.now) l (slice_index_or grid.new.lamps l no_lights) }
     {
-        Grid {
-            rows: array::from_fn(|from| self.row(from)),
-            lamps: array::from_fn(|lamp| self.lights(lamp)),
+        for from in 0..self.bounds.sizes.states {
+            grid.rows[from] = self.row(from);
         }
+        grid.lamps = array::from_fn(|lamp| self.lights(lamp));
     }
 }
