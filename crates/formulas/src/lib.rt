@@ -13,5 +13,6 @@ mod standings;
 mod subformula;
 
 pub use laws::texts_have_one_reading;
+pub use node::Node;
 pub use sentence::Sentence;
 pub use subformula::{Shape, Subformula};

@@ -3,7 +3,7 @@ use calculus::{Binary as Connective, Leaf as Atom, Prefix as Operator};
 
 // A node names its parts by their places, which come before its own.
 #[derive(Clone, Copy)]
-pub(crate) enum Node {
+pub enum Node {
     Leaf(Atom),
     Prefix(Operator, usize),
     Binary(Connective, usize, usize),

@@ -1,6 +1,8 @@
 // A sentence: a closed formula that was read from a text.
-ghost use Rattle.std.specs.Prelude.{◌≡◌, ◌<◌, true, Some, MatchResult};
+ghost use Rattle.std.specs.Prelude.{◌≡◌, ◌<◌, true, Some, MatchResult, slice_index_or};
 ghost use Rattle.calculus.specs.Formula.{Formula, closed};
+ghost use Rattle.calculus.specs.declared.syntax.Leaf.TheVariants.{True as Truth};
+ghost use Rattle.formulas.specs.declared.node.Node.TheVariants.{Leaf as Sole};
 ghost use Rattle.formulas.specs.Nodes.{formula_at};
 ghost use Rattle.formulas.specs.Readings.{wrong_length, Accepted, Refused};
 ghost use Rattle.formulas.specs.Sentences.{sentence_at};
@@ -58,5 +60,22 @@ impl Sentence {
             nodes: &self.nodes,
             at: self.root,
         }
+    }
+
+    // The place of the node that stands for the sentence.
+    pub fn root(&self) -> usize
+        ensures { result ≡ self.now.root }
+    {
+        self.root
+    }
+
+    // The node at a place, and the leaf T where there is none.
+    pub fn node(&self, at: usize) -> Node
+        ensures { result ≡ slice_index_or self.now.nodes at (Sole Truth) }
+    {
+        self.nodes
+            .get(at)
+            .copied()
+            .unwrap_or(Node::Leaf(Leaf::True))
     }
 }

@@ -2,9 +2,10 @@
 // number of negations since its binder, or not bound.
 ghost use Rattle.std.specs.Prelude.{◌≡◌};
 ghost use Rattle.calculus.specs.Environments.{value_at};
-ghost use Rattle.calculus.specs.Formula.{Formula, leaf, prefix, closed_under, negated};
+ghost use Rattle.calculus.specs.declared.syntax.Standing.TheVariants.{Even};
+ghost use Rattle.calculus.specs.Formula.{Formula, leaf, prefix, at_variable, closed_under, negated};
 
-use calculus::{Environment, Leaf, Prefix, Standing};
+use calculus::{Environment, Leaf, Prefix, Standing, Variable};
 
 pub(crate) type Standings = Environment<Standing>;
 
@@ -18,14 +19,21 @@ fn negated(variables: Standings) -> Standings
     }
 }
 
-// How they stand under a prefix: a binder starts its count of negations anew.
+// How they stand in the body of a binder, which starts its count of negations anew.
+fn in_body(variables: Standings, v: Variable) -> Standings
+    ensures { (f : Formula) → closed_under (at_variable (value_at variables) v Even) f ≡ closed_under (value_at result) f }
+{
+    variables.with(v, Standing::Even)
+}
+
+// How they stand under a prefix.
 pub(crate) fn under(variables: Standings, p: Prefix) -> Standings
     ensures { (f : Formula) → closed_under (value_at variables) (prefix p f) ≡ closed_under (value_at result) f }
 {
     match p {
         Prefix::Not => negated(variables),
         Prefix::Diamond(_) | Prefix::Box(_) => variables,
-        Prefix::Least(v) | Prefix::Greatest(v) => variables.with(v, Standing::Even),
+        Prefix::Least(v) | Prefix::Greatest(v) => in_body(variables, v),
     }
 }
 

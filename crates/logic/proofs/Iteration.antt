@@ -12,7 +12,7 @@ use Rattle.calculus.specs.Pairs.{Pair, Same}
 use Rattle.calculus.specs.Marks.{Means}
 use Rattle.logic.proofs.Counting.{Growth}
 use Rattle.logic.proofs.Existence.{means_monotone}
-use Rattle.logic.proofs.Fixed.{Direction, rising, falling, Toward, size, size_grows}
+use Rattle.logic.proofs.Fixed.{Direction, rising, falling, Toward, origin, size, size_grows, toward_origin, toward_trans, toward_from_same}
 use Rattle.logic.proofs.Monotone.{ordered_at}
 use Rattle.logic.proofs.Pairs.{same_refl, same_sym}
 use Rattle.logic.proofs.Unique.{means_same}
@@ -30,6 +30,12 @@ pub record Step (d : Direction) (M : Meaning) (f : Formula) (e : Variable → Pa
 
 pub step_grows : {d : Direction} {M : Meaning} {f : Formula} {e : Variable → Pair} {x : Variable} {p p' : Pair} → Step d M f e x p p' → Growth (Same (states M) p p') (size d (states M) p) (size d (states M) p')
 step_grows {d} {M} {p = p} {p'} step = size_grows d (states M) p p' step.onward
+
+pub first_step : (d : Direction) (M : Meaning) (f : Formula) (e : Variable → Pair) (x : Variable) (p p' : Pair) → Same (states M) p (origin d) → Means M f (at_variable e x p) p' → Step d M f e x p p'
+first_step d M f e x p p' h m = record { before = λ r fixed. from_origin r; onward = from_origin p'; means = m }
+  where
+    from_origin : (r : Pair) → Toward d (states M) p r
+    from_origin r = toward_trans d (states M) p (origin d) r (toward_from_same d (states M) p (origin d) h) (toward_origin d (states M) r)
 
 -- Two equal pairs in a row are the fixed point.
 pub last_step : (d : Direction) (M : Meaning) (f : Formula) (e : Variable → Pair) (x : Variable) (p p' : Pair) → Step d M f e x p p' → Same (states M) p p' → Means M (prefix (binder d x) f) e p

@@ -18,6 +18,7 @@ use tables::Table;
 // The draft becomes the fold of the controller by the map that the text describes, which the
 // controller refines. A refused text leaves the draft as it is. The controller is written into the
 // two lists, whose entries may hold anything before; a list of 2,048 entries is long enough.
+#[tactic(auto, using(crate::proofs::Outcomes::text_refused, crate::proofs::Outcomes::text_taken))]
 pub fn quotient(
     text: &[u8],
     moves: &mut [MoveEntry],
