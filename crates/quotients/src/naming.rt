@@ -54,8 +54,10 @@ impl ClassMap {
     pub(crate) fn to_classes(&self) -> Classes
         ensures { result.of ≡ (map_of self.now).classes }
     {
-        Classes {
-            of: self.classes.map(|class| class.unwrap_or(0)),
+        let mut of = [0; 256];
+        for (state, class) in self.classes.iter().enumerate() {
+            of[state] = class.unwrap_or(0);
         }
+        Classes { of }
     }
 }
