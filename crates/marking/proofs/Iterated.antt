@@ -31,7 +31,7 @@ abbrev pub lacks : Direction → Meaning → Set × Set → ℕ
 lacks d M w = states M * 2 - size d (states M) (word_pair w)
 
 -- equal among the states, and without any other member, is equal
-same_members : (M : Meaning) (p q : Set × Set) → OnlyStates M p → OnlyStates M q → Same (states M) (word_pair p) (word_pair q) → (j : ℕ) → (has p.0 j ≡ has q.0 j) × (has p.1 j ≡ has q.1 j)
+pub same_members : (M : Meaning) (p q : Set × Set) → OnlyStates M p → OnlyStates M q → Same (states M) (word_pair p) (word_pair q) → (j : ℕ) → (has p.0 j ≡ has q.0 j) × (has p.1 j ≡ has q.1 j)
 same_members M p q ps qs h j = grind (arith, ps.0 j, ps.1 j, qs.0 j, qs.1 j, h j)
 
 at_pair : (b : Bool) (w r : Set × Set) → word_pair (cond b w r) ≡ cond b (word_pair w) (word_pair r)
